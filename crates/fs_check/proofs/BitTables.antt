@@ -1,14 +1,14 @@
 -- Tables of bits.
 use Rattle.std.specs.Prelude.{◌≡◌, ◌≢◌, ℕ, ◌+◌, ◌-◌, ◌*◌, ◌/◌, ◌%◌, ◌<◌, ◌≤◌, nat_eq, ◌⊎◌, Bool, true, false, not, cond, List, length, get_or, set, replicate, take, drop, count_by}
-use Rattle.std.proofs.Common.{refl, sym, ap, arith, ◌∙◌, inl, inr, get_or-set_other, length-set}
-use Rattle.std.specs.Int.{bit_at}
+use Rattle.std.proofs.Common.{◌^◌, bit_or, refl, sym, ap, arith, subst, ◌∙◌, inl, inr, get_or-set_other, length-set}
+use Rattle.std.specs.Int.{w8, bit_at}
 use Rattle.std.proofs.lemmas.Bool.{cases_eq, cases_lt}
 use Rattle.std.proofs.lemmas.Grind.{get_or-set_at}
-use Rattle.std.proofs.lemmas.List.{ext_get_or, length-replicate, get_or-replicate, get_or_past, get_or-drop, get_or-take, length-take-le}
+use Rattle.std.proofs.lemmas.List.{ext_get_or, get_or_default, length-replicate, get_or-replicate, get_or_past, get_or-drop, get_or-take, length-take-le}
 use Rattle.std.proofs.lemmas.List.FromFn.{get_or-map-range_with_len, length-map-range_with_len}
 use Rattle.std.proofs.lemmas.List.Sums.{count_by-le-length, sum_by-set, sum_by-take-drop}
 use Rattle.std.proofs.lemmas.List.Folds.{sum_by-replicate}
-use Rattle.std.proofs.lemmas.Nat.Bits.{bit_at-zero}
+use Rattle.std.proofs.lemmas.Nat.Bits.{bit_at-zero, bit_at_set_same, bit_at_set_other}
 use Rattle.fs_check.specs.BitTables.{bit_in, bits_of, IsBitTable}
 
 pub bits_len : (size : ℕ) (bytes : List ℕ) → length (bits_of size bytes) ≡ size
@@ -130,6 +130,23 @@ one_set size clear n x bytes table lt there was is = record {
       let before = table.counted in
       omega (arith, less, now, before);
 }
+
+-- of a table that is seen as these bits
+module _ (size clear n : ℕ) (bytes : List ℕ) (bits : List Bool) (table : IsBitTable size clear bytes) (view : bits_of size bytes ≡ bits) (lt : n < length bits) where
+  pub bit_below : n < size
+  bit_below = let len = bits_len size bytes in let same = ap length view in omega (arith, lt, len, same)
+
+  pub byte_there : n / 8 < length bytes
+  byte_there = has_byte size clear n bytes table (subst (λ l. n < length l) (sym view) lt)
+
+  pub byte_is : (x : ℕ) → x ≡ get_or bytes (n / 8) x → x ≡ get_or bytes (n / 8) 0
+  byte_is x is = is ∙ get_or_default bytes (n / 8) x 0 byte_there
+
+  pub bit_put : (x : ℕ) → x ≡ get_or bytes (n / 8) x
+      → bits_of size (set bytes (n / 8) (bit_or x (1 * 2 ^ (n % 8) % 256))) ≡ set (bits_of size bytes) n true
+  bit_put x is =
+      bits_set size n (bit_or x (1 * 2 ^ (n % 8) % 256)) bytes bit_below byte_there (bit_at_set_same w8 x (n % 8) (omega arith))
+      (λ j ne. bit_at_set_other w8 x (n % 8) (omega arith) j ne ∙ ap (λ (b : ℕ). bit_at b j) (byte_is x is))
 
 -- ---- a sector of them
 

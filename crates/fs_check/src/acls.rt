@@ -1,12 +1,11 @@
 //! The sectors of ACLs.
 
-ghost use Rattle.std.specs.Prelude.{◌≡◌, ◌<◌, ◌≢◌, OnOk, IfOk, IfErr, MatchOption, IsTrue, ◌↔◌, map};
+ghost use Rattle.std.specs.Prelude.{◌≡◌, ◌<◌, ◌≢◌, OnOk, IfOk, MatchOption, IsTrue, ◌↔◌, map};
 ghost use Rattle.posix_acl.specs.Entries.{numbers_of};
 ghost use Rattle.fs_layout.specs.Bytes.{SectorMap};
 ghost use Rattle.fs_model.specs.Rules.{ObeysEach, ObeysBefore, Acls, HasAcls, HasSomeAccessAcl, HasSomeDefaultAcl};
 ghost use Rattle.fs_check.specs.StoredAcls.{AreNoEntries, IsListed, IsAclIn, HasListsInPlace};
 ghost use Rattle.fs_check.specs.Checks.{meaning, BeginsWith, AreInodes, Passed, IsNone, IsLeast};
-ghost use Rattle.fs_check.specs.declared.faults.CheckFault.TheVariants.{OutOfMemory};
 
 use crate::faults::{CheckFault, Checked, Finding};
 use crate::opening::Opened;
@@ -14,21 +13,20 @@ use crate::reading::read_recovered;
 use fs_layout::{AclSector, Inode, Kind};
 use posix_acl::{Acl, AclFault, Entry, EntryNumbers};
 use sector_disk::Disk;
-use std::alloc::Global;
+use std::alloc::{AllocError, Global};
 
 const ACLS: u8 = 9;
 
 // The entries with these numbers, where there are such.
-fn entries_with(alloc: Global, numbers: &[EntryNumbers]) -> Checked<Option<Vec<Entry>>>
-    ensures found { IfOk result (λ o. MatchOption o (AreNoEntries numbers.now) (λ v. map numbers_of v.items ≡ numbers.now)) }
-    ensures memory { IfErr result (λ e. e ≡ OutOfMemory) }
+fn entries_with(alloc: Global, numbers: &[EntryNumbers]) -> Result<Option<Vec<Entry>>, AllocError>
+    ensures { IfOk result (λ o. MatchOption o (AreNoEntries numbers.now) (λ v. map numbers_of v.items ≡ numbers.now)) }
 {
     let mut entries = Vec::with_capacity(alloc, numbers.len())?;
     for one in numbers {
         let Some(entry) = Entry::from_numbers(*one) else {
             return Ok(None);
         };
-        entries.push(entry)?;
+        entries.push_reserved(entry);
     }
     Ok(Some(entries))
 }
@@ -49,9 +47,8 @@ fn have_numbers(entries: &[Entry], numbers: &[EntryNumbers]) -> bool
 }
 
 // The ACL with these entries, where they are one's, in canonical order.
-fn acl_with(alloc: Global, numbers: &[EntryNumbers]) -> Checked<Option<Acl>>
-    ensures found { IfOk result (IsListed numbers.now) }
-    ensures memory { IfErr result (λ e. e ≡ OutOfMemory) }
+fn acl_with(alloc: Global, numbers: &[EntryNumbers]) -> Result<Option<Acl>, AllocError>
+    ensures { IfOk result (IsListed numbers.now) }
 {
     let Some(entries) = entries_with(alloc, numbers)? else {
         return Ok(None);
@@ -59,7 +56,7 @@ fn acl_with(alloc: Global, numbers: &[EntryNumbers]) -> Checked<Option<Acl>>
     let acl = match Acl::from_entries(alloc, &entries) {
         Ok(acl) => acl,
         Err(fault) => match fault {
-            AclFault::OutOfMemory => return Err(CheckFault::OutOfMemory),
+            AclFault::OutOfMemory => return Err(AllocError),
             _ => return Ok(None),
         },
     };
@@ -70,9 +67,8 @@ fn acl_with(alloc: Global, numbers: &[EntryNumbers]) -> Checked<Option<Acl>>
 }
 
 // The ACL that a sector has, where it has a valid one.
-fn acl_in(alloc: Global, content: &[u8; 512]) -> Checked<Option<Acl>>
-    ensures found { IfOk result (IsAclIn content.now) }
-    ensures memory { IfErr result (λ e. e ≡ OutOfMemory) }
+fn acl_in(alloc: Global, content: &[u8; 512]) -> Result<Option<Acl>, AllocError>
+    ensures { IfOk result (IsAclIn content.now) }
 {
     let Ok(sector) = AclSector::read_from(content, 0) else {
         return Ok(None);
@@ -81,9 +77,8 @@ fn acl_in(alloc: Global, content: &[u8; 512]) -> Checked<Option<Acl>>
 }
 
 // Whether the content of the sector for the inode's access ACL is one that goes with the mode.
-fn is_access_acl(alloc: Global, inode: &Inode, content: &[u8; 512]) -> Checked<bool>
-    ensures test { IfOk result (λ b. (m : SectorMap) → m inode.now.acl ≡ content.now → IsTrue b ↔ HasSomeAccessAcl m inode.now) }
-    ensures memory { IfErr result (λ e. e ≡ OutOfMemory) }
+fn is_access_acl(alloc: Global, inode: &Inode, content: &[u8; 512]) -> Result<bool, AllocError>
+    ensures { IfOk result (λ b. (m : SectorMap) → m inode.now.acl ≡ content.now → IsTrue b ↔ HasSomeAccessAcl m inode.now) }
 {
     match acl_in(alloc, content)? {
         Some(acl) => Ok(acl.is_extended() && acl.mode_bits() == inode.mode % 512),
@@ -92,9 +87,8 @@ fn is_access_acl(alloc: Global, inode: &Inode, content: &[u8; 512]) -> Checked<b
 }
 
 // Whether the content of the sector for the inode's default ACL is one.
-fn is_default_acl(alloc: Global, inode: &Inode, content: &[u8; 512]) -> Checked<bool>
-    ensures test { IfOk result (λ b. (m : SectorMap) → m inode.now.default_acl ≡ content.now → IsTrue b ↔ HasSomeDefaultAcl m inode.now) }
-    ensures memory { IfErr result (λ e. e ≡ OutOfMemory) }
+fn is_default_acl(alloc: Global, inode: &Inode, content: &[u8; 512]) -> Result<bool, AllocError>
+    ensures { IfOk result (λ b. (m : SectorMap) → m inode.now.default_acl ≡ content.now → IsTrue b ↔ HasSomeDefaultAcl m inode.now) }
 {
     Ok(acl_in(alloc, content)?.is_some())
 }
@@ -121,7 +115,7 @@ fn has_access_acl<D: Disk>(disk: &mut D, opened: &Opened, inode: &Inode) -> Chec
     }
     let mut content = [0; 512];
     read_recovered(disk, opened, inode.acl, &mut content)?;
-    is_access_acl(opened.alloc, inode, &content)
+    Ok(is_access_acl(opened.alloc, inode, &content)?)
 }
 
 // Whether the inode's default ACL is good, if it has one.
@@ -136,7 +130,7 @@ fn has_default_acl<D: Disk>(disk: &mut D, opened: &Opened, inode: &Inode) -> Che
     }
     let mut content = [0; 512];
     read_recovered(disk, opened, inode.default_acl, &mut content)?;
-    is_default_acl(opened.alloc, inode, &content)
+    Ok(is_default_acl(opened.alloc, inode, &content)?)
 }
 
 // Whether the inode's ACLs are good, and none is where it mustn't be.

@@ -186,6 +186,24 @@ fn fit_numbers<D: Disk>(
     Ok(whole)
 }
 
+// The content of a block goes with the size of the inode whose last it is. It is read only where nothing in memory tells.
+fn fits_block<D: Disk>(disk: &mut D, opened: &Opened, inode: &Inode, last: u32) -> Checked<bool>
+    requires opened { BeginsWith (D.state disk.old) opened.now.geometry opened.now.area opened.now.commit }
+    requires on_disk { last < (D.state disk.old).size }
+    ensures test { IfOk result (λ b. IsTrue b ↔ FitsLast inode.now (meaning (D.state disk.old) last)) }
+    ensures passed { Passed IsNone (D.state disk.old) (D.state disk.new) result }
+{
+    if is_known_to_fit(disk, opened, inode, last) {
+        return Ok(true);
+    }
+    if let Some(content) = find_recovered(disk, opened, last) {
+        return Ok(fits_last(inode, content));
+    }
+    let mut content = [0; 512];
+    read_recovered(disk, opened, last, &mut content)?;
+    Ok(fits_last(inode, &content))
+}
+
 // What the inode holds goes with its size.
 fn is_laid_out<D: Disk>(
     disk: &mut D,
@@ -209,15 +227,8 @@ fn is_laid_out<D: Disk>(
     if last == 0 {
         return Ok(true);
     }
-    if is_known_to_fit(disk, opened, inode, last) {
-        return Ok(true);
-    }
-    if let Some(content) = find_recovered(disk, opened, last) {
-        return Ok(fits_last(inode, content));
-    }
-    let mut content = [0; 512];
-    read_recovered(disk, opened, last, &mut content)?;
-    Ok(fits_last(inode, &content))
+    let fits = fits_block(disk, opened, inode, last)?;
+    Ok(fits)
 }
 
 /// Past the size of each inode there is nothing, only files have holes, and no link's target has a zero byte.

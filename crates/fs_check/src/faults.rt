@@ -4,7 +4,7 @@ ghost use Rattle.std.specs.Prelude.{◌≡◌};
 ghost use Rattle.fs_check.specs.declared.faults.CheckFault.TheVariants.{DiskFault as Device, OutOfMemory};
 
 use sector_disk::DiskFault;
-use std::alloc::{AllocError, AllocFailed};
+use std::alloc::AllocError;
 use thiserror::Error;
 
 /// The first rule that fails, and the least number at which it does: that of an inode, but for the rules on the
@@ -65,14 +65,6 @@ impl From<AllocError> for CheckFault {
     ghost from_gives = { λ _ e. e ≡ OutOfMemory };
 
     fn from(_: AllocError) -> CheckFault {
-        CheckFault::OutOfMemory
-    }
-}
-
-impl<T: Drop> From<AllocFailed<T>> for CheckFault {
-    ghost from_gives = { λ _ e. e ≡ OutOfMemory };
-
-    fn from(_: AllocFailed<T>) -> CheckFault {
         CheckFault::OutOfMemory
     }
 }

@@ -1,6 +1,6 @@
 //! The inode table.
 
-ghost use Rattle.std.specs.Prelude.{◌≡◌, ◌≢◌, ◌≤◌, ◌+◌, ◌*◌, ◌%◌, IsTrue, ◌↔◌, OnOk, IfOk, IfErr, IfSome, IfNone, Ok, ℕ, suc, ◌<◌, length, get_or};
+ghost use Rattle.std.specs.Prelude.{◌≡◌, ◌≢◌, ◌≤◌, ◌+◌, ◌*◌, ◌%◌, IsTrue, ◌↔◌, OnOk, IfOk, IfSome, IfNone, Ok, ℕ, suc, ◌<◌, length, vec_capacity, get_or};
 ghost use Rattle.fs_layout.specs.declared.geometry.Geometry.{Geometry};
 ghost use Rattle.fs_layout.specs.declared.inode.Inode.{Inode as AnInode};
 ghost use Rattle.fs_layout.specs.declared.inode.Kind.TheVariants.{Free, Directory};
@@ -13,7 +13,6 @@ ghost use Rattle.fs_model.specs.Nodes.{no_stamps};
 ghost use Rattle.fs_model.specs.Rules.{IsAllowed, ObeysEach, Inodes};
 ghost use Rattle.fs_model.specs.StoredStamps.{stamps_in};
 ghost use Rattle.fs_check.specs.Checks.{meaning, BeginsWith, AreInodes, Passed, IsNone, IsLeast};
-ghost use Rattle.fs_check.specs.declared.faults.CheckFault.TheVariants.{OutOfMemory};
 ghost use Rattle.fs_check.specs.TableSectors.{IsTableSector, AreFree, AreInodesBefore};
 
 use crate::faults::{CheckFault, Checked, Finding};
@@ -142,23 +141,22 @@ pub(crate) fn read_table<D: Disk>(
 }
 
 // Puts inode `ino` behind those before it, unless it is free: no free one is kept behind the last that is in use.
-fn keep_inode(inodes: &mut Vec<Inode>, ino: u32, inode: Inode) -> Checked<()>
+fn keep_inode(inodes: &mut Vec<Inode>, ino: u32, inode: Inode)
     requires before { length inodes.old.items ≤ ino }
+    requires room { ino < vec_capacity inodes.old }
     requires free { inode.kind ≡ Free → inode ≡ free_inode }
-    ensures few { OnOk result (length inodes.new.items ≤ ino + 1) }
-    ensures earlier { OnOk result
-        ((k : ℕ) → k < ino → get_or inodes.new.items k free_inode ≡ get_or inodes.old.items k free_inode) }
-    ensures there { OnOk result (get_or inodes.new.items ino free_inode ≡ inode) }
-    ensures memory { IfErr result (λ e. e ≡ OutOfMemory) }
+    ensures few { length inodes.new.items ≤ ino + 1 }
+    ensures earlier { (k : ℕ) → k < ino → get_or inodes.new.items k free_inode ≡ get_or inodes.old.items k free_inode }
+    ensures there { get_or inodes.new.items ino free_inode ≡ inode }
+    ensures room { vec_capacity inodes.new ≡ vec_capacity inodes.old }
 {
     if inode.kind == Kind::Free {
-        return Ok(());
+        return;
     }
     for _k in inodes.len()..ino as usize {
-        inodes.push(Inode::FREE)?;
+        inodes.push_reserved(Inode::FREE);
     }
-    inodes.push(inode)?;
-    Ok(())
+    inodes.push_reserved(inode);
 }
 
 // The content of a sector of the table is zeros: but for the first, such a one has free inodes alone.
@@ -193,7 +191,9 @@ fn read_sector<D: Disk>(
     requires opened { BeginsWith (D.state disk.old) opened.now.geometry opened.now.area opened.now.commit }
     requires there { 4 * k < opened.now.geometry.inodes }
     requires before { AreInodesBefore opened.now.geometry (meaning (D.state disk.old)) (4 * k) inodes.old.items }
+    requires room { opened.now.geometry.inodes ≤ vec_capacity inodes.old }
     ensures before { OnOk result (AreInodesBefore opened.now.geometry (meaning (D.state disk.old)) (4 * (k + 1)) inodes.new.items) }
+    ensures room { OnOk result (opened.now.geometry.inodes ≤ vec_capacity inodes.new) }
     ensures passed { Passed (IsLeast opened.now.geometry Inodes) (D.state disk.old) (D.state disk.new) result }
 {
     let first = 4 * k;
@@ -201,7 +201,7 @@ fn read_sector<D: Disk>(
     for ino in first..first + (opened.geometry.inodes - first).min(4) {
         read_table(disk, opened, ino, &mut table)?;
         match good_inode(&table, ino, opened.geometry.version) {
-            Some(inode) => keep_inode(inodes, ino, inode)?,
+            Some(inode) => keep_inode(inodes, ino, inode),
             None => {
                 return Err(CheckFault::Found(Finding {
                     rule: INODES,

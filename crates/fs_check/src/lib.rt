@@ -26,4 +26,4 @@ mod zeros;
 pub use checking::check;
 pub use faults::{CheckFault, Finding, Summary};
 pub use loading::load;
-pub use recovering::{geometry_said, read_meaning};
+pub use recovering::{commit_said, geometry_said, read_meaning};

@@ -7,9 +7,8 @@ ghost use Rattle.sector_disk.specs.Disk.{sector};
 ghost use Rattle.fs_check.specs.Checks.{Passed, IsFirst};
 
 use crate::faults::{CheckFault, Checked, Finding};
-use crate::recovering::geometry_said;
+use crate::recovering::{commit_said, geometry_said};
 use fs_layout::{Commit, Geometry};
-use redo_journal::read_commit;
 use sector_disk::Disk;
 use std::alloc::Global;
 
@@ -51,7 +50,7 @@ pub(crate) fn open_commit<D: Disk>(disk: &mut D, geometry: Geometry) -> Checked<
     ensures targets { IfOk result (λ found. IsCommit (D.state disk.old).size (sector (D.state disk.old).seen) found.1) }
     ensures passed { Passed IsFirst (D.state disk.old) (D.state disk.new) result }
 {
-    let (area, found) = read_commit(disk, geometry.header)?;
+    let (area, found) = commit_said(disk, geometry)?;
     match found {
         Some(commit) => Ok((area, commit)),
         None => Err(NO_COMMIT),

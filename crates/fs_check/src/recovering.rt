@@ -1,16 +1,18 @@
 //! What a superblock says, and sectors as recovery would leave them: for all that read an image and change nothing.
 
-ghost use Rattle.std.specs.Prelude.{◌≡◌, ◌≢◌, ◌≤◌, ◌<◌, ◌^◌, ℕ, length, get_or, IfSome, IfNone, IsTrue, OnOk};
+ghost use Rattle.std.specs.Prelude.{◌≡◌, ◌≢◌, ◌≤◌, ◌<◌, ◌^◌, ℕ, length, get_or, IfSome, IfNone, IfOk, IsTrue, OnOk, MatchOption};
 ghost use Rattle.fs_layout.specs.Bytes.{SectorMap};
 ghost use Rattle.fs_layout.specs.Commit.{AreTargets, IsCommit, named_area};
 ghost use Rattle.fs_layout.specs.Header.{header_of};
 ghost use Rattle.fs_layout.specs.declared.header.TheConstants.{MAX_HEADER};
 ghost use Rattle.fs_layout.specs.Recovered.{recovered};
 ghost use Rattle.fs_model.specs.Rules.{IsGeometryOf, HasGeometry};
-ghost use Rattle.sector_disk.specs.Disk.{EndsInZeros, OnlyReads, HasCause};
+ghost use Rattle.redo_journal.specs.Meaning.{HasValidCommit};
+ghost use Rattle.sector_disk.specs.Disk.{EndsInZeros, OnlyReads, HasCause, sector};
 ghost use Rattle.fs_check.specs.Checks.{meaning, BeginsWith};
 
 use fs_layout::{Commit, Geometry, Super, area_start};
+use redo_journal::read_commit;
 use sector_disk::{Disk, DiskFault};
 
 /// The layout of a disk of so many sectors, as its superblock says it.
@@ -25,6 +27,21 @@ pub fn geometry_said(content: &[u8; 512], size: u32) -> Option<Geometry>
         return None;
     }
     superblock.geometry()
+}
+
+/// The log area that the commit names, and the commit, where it is valid and the superblock says this layout.
+pub fn commit_said<D: Disk>(
+    disk: &mut D,
+    geometry: Geometry,
+) -> Result<(u32, Option<Commit>), DiskFault>
+    requires { IsGeometryOf (D.state disk.old).size (sector (D.state disk.old).seen) geometry }
+    ensures area { IfOk result (λ found. found.0 ≡ named_area (sector (D.state disk.old).seen)) }
+    ensures commit { IfOk result (λ found. MatchOption found.1 (HasValidCommit (D.state disk.old).size (D.state disk.old).seen → ⊥)
+        (λ targets. IsCommit (D.state disk.old).size (sector (D.state disk.old).seen) targets)) }
+    ensures reads { OnlyReads (D.state disk.old) (D.state disk.new) }
+    ensures cause { HasCause (D.state disk.old) (D.state disk.new) result }
+{
+    read_commit(disk, geometry.header)
 }
 
 // Where the sector stands among the targets.

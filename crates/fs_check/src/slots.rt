@@ -3,18 +3,20 @@
 ghost use Rattle.std.specs.Prelude.{◌≡◌, ◌≢◌, ◌≤◌, ◌<◌, ◌+◌, ◌/◌, ◌%◌, ℕ, length, get_or, OnOk, IfOk, IsTrue, ◌↔◌, MatchOption, All};
 ghost use Rattle.std.specs.List.Sorted.{IsPermutation, IsSortedBy};
 ghost use Rattle.fs_layout.specs.declared.inode.TheConstants.{MAX_DIRECTORY_SIZE};
+ghost use Rattle.fs_layout.specs.declared.inode.Inode.{Inode as AnInode};
+ghost use Rattle.fs_layout.specs.Bytes.{SectorMap};
 ghost use Rattle.fs_layout.specs.Version.{block_slots};
 ghost use Rattle.fs_layout.specs.Images.{IsData, Owns};
 ghost use Rattle.fs_layout.specs.Directories.{NamedInode, HaveDistinctNames};
 ghost use Rattle.fs_check.specs.Owning.{AreAtHand};
-ghost use Rattle.fs_check.specs.Naming.{block_of_slot, AreValid, AreSlots, IsUsable, HasGoodSlots, is_below};
+ghost use Rattle.fs_check.specs.Naming.{block_of_slot, AreValid, IsSlotAt, AreSlots, IsUsable, HasGoodSlots, is_below};
 ghost use Rattle.fs_check.specs.Checks.{meaning, BeginsWith, AreInodes, Passed, IsNone};
 
 use crate::faults::Checked;
 use crate::opening::Opened;
 use crate::owning::Pointers;
 use crate::reading::read_recovered;
-use fs_layout::{Inode, Kind, ROOT, Slot};
+use fs_layout::{Inode, Kind, ROOT, Slot, Version};
 use sector_disk::Disk;
 
 // Reads the block of slot k, unless the slot before it stands there too.
@@ -45,6 +47,17 @@ fn read_block_of<D: Disk>(
     Ok(())
 }
 
+// Slot k of a directory, which stands in this block, where it is valid.
+fn slot_in(version: Version, block: &[u8; 512], k: usize) -> Option<Slot>
+    ensures { (m : SectorMap) (v : AnInode) → block.now ≡ block_of_slot version m v k → IsSlotAt version m v k result }
+{
+    let at = version.slot_size() * (k % version.block_slots());
+    match Slot::read_in(version, block, at) {
+        Ok(slot) => Some(slot),
+        Err(_) => None,
+    }
+}
+
 // The slots of a directory, where each is valid.
 fn read_slots<D: Disk>(disk: &mut D, opened: &Opened, inode: &Inode) -> Checked<Option<Vec<Slot>>>
     requires opened { BeginsWith (D.state disk.old) opened.now.geometry opened.now.area opened.now.commit }
@@ -61,11 +74,10 @@ fn read_slots<D: Disk>(disk: &mut D, opened: &Opened, inode: &Inode) -> Checked<
     let mut block = [0; 512];
     for k in 0..count {
         read_block_of(disk, opened, inode, &mut pointers, k, &mut block)?;
-        let at = version.slot_size() * (k % version.block_slots());
-        let Ok(slot) = Slot::read_in(version, &block, at) else {
+        let Some(slot) = slot_in(version, &block, k) else {
             return Ok(None);
         };
-        slots.push(slot)?;
+        slots.push_reserved(slot);
     }
     Ok(Some(slots))
 }

@@ -1,4 +1,4 @@
-use Rattle.std.proofs.Common.{◌≡◌, ◌/◌, arith, sym, ap, subst, refl, true, ◌∙◌}
+use Rattle.std.proofs.Common.{◌≡◌, ◌/◌, IsTrue, ◌↔◌, arith, ap, subst, refl, ◌∙◌}
 use Rattle.fs_layout.specs.Bytes.{SectorMap}
 use Rattle.fs_layout.specs.Images.{pointer}
 use Rattle.sector_disk.proofs.Moments.{reads_joined}
@@ -33,8 +33,8 @@ returns-then-last-eq0-clause-test g c =
 pub returns-then-last-eq0-clause-at_hand : goal.returns-then-last-eq0-clause-at_hand
 returns-then-last-eq0-clause-at_hand g c = hand_back c.in_ok-fit_numbers.ensures.passed.reads c.number.new.self c.in_ok-last.ensures.at_hand
 
-pub is_known_to_fit-requires-clause-on_disk : goal.is_known_to_fit-requires-clause-on_disk
-is_known_to_fit-requires-clause-on_disk g c =
+pub fits_block-requires-clause-on_disk : goal.fits_block-requires-clause-on_disk
+fits_block-requires-clause-on_disk g c =
     let p = c.args.opened.now.geometry in
     let v = c.args.inode.now in
     let m = meaning (g.D.Disk.state c.args.disk.now) in
@@ -45,73 +45,8 @@ is_known_to_fit-requires-clause-on_disk g c =
     let second = c.in_ok-last.ensures.passed.reads.narrowed.size in
     omega (arith, below, first, second)
 
-pub is_known_to_fit-requires-clause-opened : goal.is_known_to_fit-requires-clause-opened
-is_known_to_fit-requires-clause-opened g c =
-    opened_still (reads_joined c.in_ok-fit_numbers.ensures.passed.reads c.in_ok-last.ensures.passed.reads) c.requires.opened
-
-pub returns-then-is_known_to_fit-clause-test : goal.returns-then-is_known_to_fit-clause-test
-returns-then-is_known_to_fit-clause-test g c =
-    let m = meaning (g.D.Disk.state c.args.disk.now) in
-    let v = c.args.inode.now in
-    let last = c.in_ok-last.last in
-    let fit = c.in_ok-fit_numbers.ensures.test.0 c.if-not-branch.false in
-    let k = c.saturating_sub-k.result / 512 in
-    let at : k ≡ last_block v = ap (λ n. n / 512) c.saturating_sub-k.ensures in
-    let is = number_back c.in_ok-fit_numbers.ensures.passed.reads v 0 k last c.in_ok-last.ensures.number in
-    let same = meaning_same (reads_joined c.in_ok-fit_numbers.ensures.passed.reads c.in_ok-last.ensures.passed.reads) in
-    let fits : FitsLast v (m last) = subst (λ (q : SectorMap). FitsLast v (q last)) same (c.is_known_to_fit.ensures c.if-is_known_to_fit.true) in
-    laid_out_last m v fit last (m last) (is ∙ ap (pointer m v) at) c.if-last-eq0.false refl true c.requires.size.short ((λ t. fits), (λ f. refl))
-
-pub returns-then-is_known_to_fit-clause-at_hand : goal.returns-then-is_known_to_fit-clause-at_hand
-returns-then-is_known_to_fit-clause-at_hand g c = hand_back c.in_ok-fit_numbers.ensures.passed.reads c.number.new.self c.in_ok-last.ensures.at_hand
-
-pub find_recovered-requires-clause-on_disk : goal.find_recovered-requires-clause-on_disk
-find_recovered-requires-clause-on_disk g c =
-    let p = c.args.opened.now.geometry in
-    let v = c.args.inode.now in
-    let m = meaning (g.D.Disk.state c.args.disk.now) in
-    let k = c.saturating_sub-k.result / 512 in
-    let is = number_back c.in_ok-fit_numbers.ensures.passed.reads v 0 k c.in_ok-last.last c.in_ok-last.ensures.number in
-    let below = level_below _ _ p m v 0 k c.in_ok-last.last c.requires.opened.geometry (level_owned p m v c.requires.in_data 0) is in
-    let first = c.in_ok-fit_numbers.ensures.passed.reads.narrowed.size in
-    let second = c.in_ok-last.ensures.passed.reads.narrowed.size in
-    omega (arith, below, first, second)
-
-pub find_recovered-requires-clause-opened : goal.find_recovered-requires-clause-opened
-find_recovered-requires-clause-opened g c =
-    opened_still (reads_joined c.in_ok-fit_numbers.ensures.passed.reads c.in_ok-last.ensures.passed.reads) c.requires.opened
-
-pub returns-in-Some-clause-test : goal.returns-in-Some-clause-test
-returns-in-Some-clause-test g c =
-    let m = meaning (g.D.Disk.state c.args.disk.now) in
-    let v = c.args.inode.now in
-    let last = c.in_ok-last.last in
-    let fit = c.in_ok-fit_numbers.ensures.test.0 c.if-not-branch.false in
-    let k = c.saturating_sub-k.result / 512 in
-    let at : k ≡ last_block v = ap (λ n. n / 512) c.saturating_sub-k.ensures in
-    let is = number_back c.in_ok-fit_numbers.ensures.passed.reads v 0 k last c.in_ok-last.ensures.number in
-    let same = meaning_same (reads_joined c.in_ok-fit_numbers.ensures.passed.reads c.in_ok-last.ensures.passed.reads) in
-    let read : m last ≡ c.in-Some.content.now = sym (c.in-Some.ensures ∙ ap (λ (q : SectorMap). q last) same) in
-    laid_out_last m v fit last c.in-Some.content.now (is ∙ ap (pointer m v) at) c.if-last-eq0.false read
-    c.fits_last.result c.requires.size.short c.fits_last.ensures
-
-pub returns-in-Some-clause-at_hand : goal.returns-in-Some-clause-at_hand
-returns-in-Some-clause-at_hand g c = hand_back c.in_ok-fit_numbers.ensures.passed.reads c.number.new.self c.in_ok-last.ensures.at_hand
-
-pub read_recovered-requires-clause-on_disk : goal.read_recovered-requires-clause-on_disk
-read_recovered-requires-clause-on_disk g c =
-    let p = c.args.opened.now.geometry in
-    let v = c.args.inode.now in
-    let m = meaning (g.D.Disk.state c.args.disk.now) in
-    let k = c.saturating_sub-k.result / 512 in
-    let is = number_back c.in_ok-fit_numbers.ensures.passed.reads v 0 k c.in_ok-last.last c.in_ok-last.ensures.number in
-    let below = level_below _ _ p m v 0 k c.in_ok-last.last c.requires.opened.geometry (level_owned p m v c.requires.in_data 0) is in
-    let first = c.in_ok-fit_numbers.ensures.passed.reads.narrowed.size in
-    let second = c.in_ok-last.ensures.passed.reads.narrowed.size in
-    omega (arith, below, first, second)
-
-pub read_recovered-requires-clause-opened : goal.read_recovered-requires-clause-opened
-read_recovered-requires-clause-opened g c =
+pub fits_block-requires-clause-opened : goal.fits_block-requires-clause-opened
+fits_block-requires-clause-opened g c =
     opened_still (reads_joined c.in_ok-fit_numbers.ensures.passed.reads c.in_ok-last.ensures.passed.reads) c.requires.opened
 
 pub returns-clause-at_hand : goal.returns-clause-at_hand
@@ -127,6 +62,5 @@ returns-clause-test g c =
     let at : k ≡ last_block v = ap (λ n. n / 512) c.saturating_sub-k.ensures in
     let is = number_back c.in_ok-fit_numbers.ensures.passed.reads v 0 k last c.in_ok-last.ensures.number in
     let same = meaning_same (reads_joined c.in_ok-fit_numbers.ensures.passed.reads c.in_ok-last.ensures.passed.reads) in
-    let read : m last ≡ c.read_recovered.new.to = sym (c.in_ok-read_recovered.ensures.content ∙ ap (λ (q : SectorMap). q last) same) in
-    laid_out_last m v fit last c.read_recovered.new.to (is ∙ ap (pointer m v) at) c.if-last-eq0.false read
-    c.fits_last-2.result c.requires.size.short c.fits_last-2.ensures
+    let test = subst (λ (q : SectorMap). IsTrue c.in_ok-fits.fits ↔ FitsLast v (q last)) same c.in_ok-fits.ensures.test in
+    laid_out_last m v fit last (m last) (is ∙ ap (pointer m v) at) c.if-last-eq0.false refl c.in_ok-fits.fits c.requires.size.short test

@@ -16,6 +16,9 @@ read_sector-requires-clause-opened g c = opened_still c.loop-k.invariant.reads c
 pub read_sector-requires-clause-before : goal.read_sector-requires-clause-before
 read_sector-requires-clause-before g c = inodes_still c.loop-k.invariant.reads c.loop-k.invariant.before
 
+pub read_sector-requires-clause-room : goal.read_sector-requires-clause-room
+read_sector-requires-clause-room g c = c.loop-k.invariant.room
+
 pub loop-k-preserved-then-is_free_sector : goal.loop-k-preserved-then-is_free_sector
 loop-k-preserved-then-is_free_sector g c =
     let so_far = c.loop-k.invariant in
@@ -24,6 +27,7 @@ loop-k-preserved-then-is_free_sector g c =
     record {
       reads = so_far.reads;
       before = free_before p (meaning (g.D.Disk.state c.args.disk.now)) c.loop-k.k c.loop-k.inodes.items free so_far.before;
+      room = so_far.room;
     }
 
 pub loop-k-preserved : goal.loop-k-preserved
@@ -32,6 +36,7 @@ loop-k-preserved g c =
     record {
       reads = reads_joined so_far.reads c.in_ok-read_sector.ensures.passed.reads;
       before = inodes_back so_far.reads c.in_ok-read_sector.ensures.before;
+      room = c.in_ok-read_sector.ensures.room;
     }
 
 pub returns-in_err-read_sector-clause-passed : goal.returns-in_err-read_sector-clause-passed

@@ -1,8 +1,7 @@
-use Rattle.std.proofs.Common.{◌≡◌, ◌<◌, ◌*◌, ◌+◌, ◌-◌, Some, None, refl, arith, subst, ◌∙◌}
-use Rattle.std.specs.Prelude.{IsErrAnd}
+use Rattle.std.proofs.Common.{◌<◌, ◌*◌, ◌+◌, ◌-◌, Some, None, refl, arith, ◌∙◌}
 use Rattle.sector_disk.proofs.Moments.{reads_nothing, reads_joined}
 use Rattle.fs_check.specs.Checks.{meaning}
-use Rattle.fs_check.proofs.Carrying.{opened_still, read_error, memory_error}
+use Rattle.fs_check.proofs.Carrying.{opened_still, read_error}
 use Rattle.fs_check.proofs.FreeSectors.{no_more_before, one_more_before}
 use Rattle.fs_check.proofs.Tables.{good_is, table_geometry}
 use Rattle.fs_check.proofs.TableSectors.{same_sector, sector_back, sector_still}
@@ -14,6 +13,7 @@ loop-ino-init g c = record {
   kept = λ inside. absurd (inside (omega arith));
   begun = omega arith;
   before = c.requires.before;
+  room = c.requires.room;
 }
 
 pub read_table-requires-clause-opened : goal.read_table-requires-clause-opened
@@ -33,7 +33,7 @@ loop-ino-preserved g c =
     let here = sector_back s0 s1 p n c.read_table.new.table so_far.reads c.in_ok-read_table.ensures.table in
     let v = c.in-Some.inode in
     let told = c.in-Some.ensures in
-    let kept = c.in_ok-keep_inode-in-Some.ensures in
+    let kept = c.keep_inode.ensures in
     let lt = c.loop-ino-test.true in
     let end = c.min.ensures in
     let inside : n < p.inodes = omega (arith, lt, end, c.requires.there) in
@@ -44,6 +44,7 @@ loop-ino-preserved g c =
       begun = let begun = so_far.begun in omega (arith, begun);
       before = one_more_before p (meaning s0) n c.loop-ino.inodes.items c.keep_inode.new.inodes.items so_far.before inside kept.few
           (λ k low. kept.earlier k low) (kept.there ∙ good.1) good.0;
+      room = let room = so_far.room in omega (arith, room, kept.room);
     }
 
 pub returns-in-None-clause-passed : goal.returns-in-None-clause-passed
@@ -69,11 +70,12 @@ returns-in_err-read_table-clause-passed g c =
     read_error (g.D.Disk.state c.args.disk.now) (g.D.Disk.state c.loop-ino.disk) (g.D.Disk.state c.read_table.new.disk) c.loop-ino.invariant.reads left.result left.ensures.1
     c.in_err-read_table.ensures.passed
 
-pub returns-in_err-keep_inode-in-Some-clause-passed : goal.returns-in_err-keep_inode-in-Some-clause-passed
-returns-in_err-keep_inode-in-Some-clause-passed g c =
-    let left = c.from_residual-in_err-keep_inode-in-Some in
-    memory_error (g.D.Disk.state c.args.disk.now) (g.D.Disk.state c.read_table.new.disk) (reads_joined c.loop-ino.invariant.reads c.in_ok-read_table.ensures.passed.reads)
-    left.result (subst (λ e. IsErrAnd left.result (λ y. y ≡ e)) c.in_err-keep_inode-in-Some.ensures.memory left.ensures.1)
+pub keep_inode-requires-clause-room : goal.keep_inode-requires-clause-room
+keep_inode-requires-clause-room g c =
+    let lt = c.loop-ino-test.true in
+    let end = c.min.ensures in
+    let room = c.loop-ino.invariant.room in
+    omega (arith, lt, end, room, c.requires.there)
 
 pub returns-clause-before : goal.returns-clause-before
 returns-clause-before g c =
@@ -85,6 +87,9 @@ returns-clause-before g c =
 
 pub returns-clause-passed : goal.returns-clause-passed
 returns-clause-passed g c = record { reads = c.loop-ino.invariant.reads; reason = tt }
+
+pub returns-clause-room : goal.returns-clause-room
+returns-clause-room g c = c.loop-ino.invariant.room
 
 pub overflow_mul-first : goal.overflow_mul-first
 overflow_mul-first g c =

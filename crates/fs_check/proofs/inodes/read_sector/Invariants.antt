@@ -1,4 +1,5 @@
 use Rattle.std.proofs.Common.{◌≢◌, ◌≤◌, ◌%◌, ◌*◌}
+use Rattle.std.specs.Prelude.{vec_capacity}
 use Rattle.sector_disk.specs.Disk.{OnlyReads}
 use Rattle.fs_check.specs.Checks.{meaning}
 use Rattle.fs_check.specs.TableSectors.{IsTableSector, AreInodesBefore}
@@ -10,4 +11,5 @@ invariant-loop-ino g l = record {
   kept : l.ino % 4 ≢ 0 → IsTableSector l.opened.geometry (meaning (g.D.Disk.state l.fn.disk)) l.ino l.table;
   begun : 4 * l.k ≤ l.ino;
   before : AreInodesBefore l.opened.geometry (meaning (g.D.Disk.state l.fn.disk)) l.ino l.inodes.items;
+  room : l.opened.geometry.inodes ≤ vec_capacity l.inodes;
 }

@@ -1,6 +1,6 @@
-use Rattle.std.proofs.Common.{◌≡◌, ◌+◌, ◌-◌, ◌*◌, [], get_or, arith, refl, sym, subst, ◌∙◌}
-use Rattle.fs_layout.specs.declared.inode.TheConstants.{SECTOR_POINTERS}
-use Rattle.fs_layout.specs.Images.{own_count, number_on}
+use Rattle.std.proofs.Common.{ℕ, ◌≡◌, ◌≤◌, ◌<◌, ◌+◌, ◌-◌, ◌*◌, [], get_or, arith, refl, sym, subst, ◌∙◌}
+use Rattle.fs_layout.specs.declared.inode.TheConstants.{POINTER_LEVELS, SECTOR_POINTERS}
+use Rattle.fs_layout.specs.Images.{own_count, level_end, number_on}
 use Rattle.sector_disk.proofs.Moments.{reads_joined, reads_nothing}
 use Rattle.fs_check.specs.Checks.{meaning}
 use Rattle.fs_check.specs.Owning.{AreInData, first_part, owned_part, IsMarked}
@@ -168,42 +168,25 @@ returns-then-not-mark_listed-2-clause-at_hand g c = hand_back c.loop-j.invariant
 pub returns-clause-passed : goal.returns-clause-passed
 returns-clause-passed g c = record { reads = c.loop-j.invariant.reads; reason = tt }
 
+-- the numbers that a sector of pointers has are small
+small_end : (level own j end : ℕ) → level ≤ POINTER_LEVELS → own ≡ own_count level → j < end → end ≤ level_end (level + 1)
+    → own + SECTOR_POINTERS * (j + 1) ≤ 2113676
+small_end level own j end few is lt most =
+    let listed = end_listed level (j + 1) few (omega (arith, lt, most)) in
+    let small = end_few level in
+    omega (arith, listed, small, is)
+
 pub overflow_mul-listed : goal.overflow_mul-listed
-overflow_mul-listed g c =
-    let lt = c.loop-j-test.true in
-    let most = c.number_end-j-end.ensures.most in
-    let listed = end_listed c.args.level (c.loop-j.j + 1) c.requires.level (omega (arith, lt, most)) in
-    let few = end_few c.args.level in
-    omega (arith, listed, few, c.own_count-own.ensures)
+overflow_mul-listed g c = omega (arith, small_end c.args.level c.own_count-own.result c.loop-j.j _ c.requires.level c.own_count-own.ensures c.loop-j-test.true c.number_end-j-end.ensures.most)
 
 pub overflow_add-listed : goal.overflow_add-listed
-overflow_add-listed g c =
-    let lt = c.loop-j-test.true in
-    let most = c.number_end-j-end.ensures.most in
-    let listed = end_listed c.args.level (c.loop-j.j + 1) c.requires.level (omega (arith, lt, most)) in
-    let few = end_few c.args.level in
-    omega (arith, listed, few, c.own_count-own.ensures)
+overflow_add-listed g c = omega (arith, small_end c.args.level c.own_count-own.result c.loop-j.j _ c.requires.level c.own_count-own.ensures c.loop-j-test.true c.number_end-j-end.ensures.most)
 
 pub overflow_add-listed-in-loop-j : goal.overflow_add-listed-in-loop-j
-overflow_add-listed-in-loop-j g c =
-    let lt = c.loop-j-test.true in
-    let most = c.number_end-j-end.ensures.most in
-    let listed = end_listed c.args.level (c.loop-j.j + 1) c.requires.level (omega (arith, lt, most)) in
-    let few = end_few c.args.level in
-    omega (arith, listed, few, c.own_count-own.ensures)
+overflow_add-listed-in-loop-j g c = omega (arith, small_end c.args.level c.own_count-own.result c.loop-j.j _ c.requires.level c.own_count-own.ensures c.loop-j-test.true c.number_end-j-end.ensures.most)
 
 pub overflow_mul-listed-in-loop-j : goal.overflow_mul-listed-in-loop-j
-overflow_mul-listed-in-loop-j g c =
-    let lt = c.loop-j-test.true in
-    let most = c.number_end-j-end.ensures.most in
-    let listed = end_listed c.args.level (c.loop-j.j + 1) c.requires.level (omega (arith, lt, most)) in
-    let few = end_few c.args.level in
-    omega (arith, listed, few, c.own_count-own.ensures)
+overflow_mul-listed-in-loop-j g c = omega (arith, small_end c.args.level c.own_count-own.result c.loop-j.j _ c.requires.level c.own_count-own.ensures c.loop-j-test.true c.number_end-j-end.ensures.most)
 
 pub overflow_add-listed-in-loop-j-2 : goal.overflow_add-listed-in-loop-j-2
-overflow_add-listed-in-loop-j-2 g c =
-    let lt = c.loop-j-test.true in
-    let most = c.number_end-j-end.ensures.most in
-    let listed = end_listed c.args.level (c.loop-j.j + 1) c.requires.level (omega (arith, lt, most)) in
-    let few = end_few c.args.level in
-    omega (arith, listed, few, c.own_count-own.ensures)
+overflow_add-listed-in-loop-j-2 g c = omega (arith, small_end c.args.level c.own_count-own.result c.loop-j.j _ c.requires.level c.own_count-own.ensures c.loop-j-test.true c.number_end-j-end.ensures.most)

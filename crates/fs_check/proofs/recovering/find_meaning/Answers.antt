@@ -1,24 +1,16 @@
-use Rattle.std.proofs.Common.{◌≡◌, sym, subst, List, ℕ}
-use Rattle.std.specs.Prelude.{IfSome}
-use Rattle.sector_disk.specs.Disk.{sector}
-use Rattle.fs_layout.specs.Commit.{AreTargets}
-use Rattle.fs_check.specs.Checks.{meaning}
-use Rattle.fs_check.proofs.Openings.{has_header, header_there}
+use Rattle.std.proofs.Common.{sym, subst, List, ℕ}
+use Rattle.std.specs.Prelude.{◌≡◌, IfSome}
+use Rattle.fs_check.proofs.Openings.{header_few, place_there, place_means}
 use Rattle.fs_check.proofs.recovering.find_meaning.Goals as goal
 
 pub content_of-requires : goal.content_of-requires
-content_of-requires g c = (has_header (g.D.Disk.state c.args.disk.now) c.args.geometry c.requires.begins.geometry).most
+content_of-requires g c = header_few (g.D.Disk.state c.args.disk.now) c.args.geometry c.requires.begins
 
 pub find-requires : goal.find-requires
 find-requires g c =
-    let s0 = g.D.Disk.state c.args.disk.now in
-    let is = header_there s0 c.args.geometry c.requires.begins.geometry in
-    c.content_of.ensures.on_disk s0.size (subst (λ h. AreTargets h s0.size c.args.commit.now) is c.requires.begins.commit.valid) c.requires.on_disk
+    place_there (g.D.Disk.state c.args.disk.now) c.args.geometry c.requires.begins c.args.n c.content_of.ensures.on_disk c.requires.on_disk
 
 pub returns : goal.returns
 returns g c =
-    let s0 = g.D.Disk.state c.args.disk.now in
-    let is = header_there s0 c.args.geometry c.requires.begins.geometry in
-    let there : meaning s0 c.args.n ≡ sector s0.seen c.content_of.result =
-    c.content_of.ensures.content s0.size (sector s0.seen) (g.met.D.Disk.size_fits c.args.disk.now) (sym is) c.requires.begins.log c.requires.begins.commit in
-    subst (λ (q : List ℕ). IfSome c.find.result (λ content. content.now ≡ q)) (sym there) c.find.ensures
+    let means = place_means (g.D.Disk.state c.args.disk.now) c.args.geometry c.requires.begins c.args.n c.content_of.ensures.content (g.met.D.Disk.size_fits c.args.disk.now) in
+    subst (λ (q : List ℕ). IfSome c.find.result (λ content. content.now ≡ q)) (sym means) c.find.ensures

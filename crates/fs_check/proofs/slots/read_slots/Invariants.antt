@@ -1,5 +1,5 @@
 use Rattle.std.proofs.Common.{◌≡◌, ◌≢◌, ◌%◌, ◌<◌, ℕ, length, get_or}
-use Rattle.std.specs.Prelude.{Ok}
+use Rattle.std.specs.Prelude.{Ok, vec_capacity}
 use Rattle.fs_layout.specs.Version.{block_slots}
 use Rattle.fs_layout.specs.Directories.{NamedInode, slot_at, slot_of, stored_slot}
 use Rattle.sector_disk.specs.Disk.{OnlyReads}
@@ -15,6 +15,7 @@ invariant-loop-k g l = record {
   block : l.k % block_slots l.opened.geometry.version ≢ 0
       → l.block ≡ block_of_slot l.opened.geometry.version (meaning (g.D.Disk.state l.fn.disk)) l.inode l.k;
   len : length l.slots.items ≡ l.k;
+  room : vec_capacity l.slots ≡ vec_capacity l.initial.slots;
   valid : (j : ℕ) → j < l.k → slot_of l.opened.geometry.version (stored_slot l.opened.geometry.version (meaning (g.D.Disk.state l.fn.disk)) l.inode j)
       ≡ Ok (slot_at l.opened.geometry.version (meaning (g.D.Disk.state l.fn.disk)) l.inode j);
   each : (d : NamedInode) (j : ℕ) → j < l.k
