@@ -20,7 +20,7 @@ unfolding bits_of
 bit_of size bytes n lt = get_or-map-range_with_len (bit_in bytes) 0 size n n false lt (omega arith)
 
 -- a bit of the table has its byte
-pub has_byte : (size clear n : ℕ) (bytes : List ℕ) → IsBitTable size clear bytes → n < length (bits_of size bytes) → n / 8 < length bytes
+has_byte : (size clear n : ℕ) (bytes : List ℕ) → IsBitTable size clear bytes → n < length (bits_of size bytes) → n / 8 < length bytes
 has_byte size clear n bytes x lt = let len = bits_len size bytes in let room = x.room in omega (arith, lt, len, room)
 
 -- ---- no bit is set
@@ -93,7 +93,7 @@ clear_before first bits within clear =
 
 -- ---- one more is set
 
-pub bits_set : (size n x : ℕ) (bytes : List ℕ) → n < size → n / 8 < length bytes → bit_at x (n % 8) ≡ 1
+bits_set : (size n x : ℕ) (bytes : List ℕ) → n < size → n / 8 < length bytes → bit_at x (n % 8) ≡ 1
     → ((j : ℕ) → j ≢ n % 8 → bit_at x j ≡ bit_at (get_or bytes (n / 8) 0) j)
     → bits_of size (set bytes (n / 8) x) ≡ set (bits_of size bytes) n true
 bits_set size n x bytes lt there here others =
