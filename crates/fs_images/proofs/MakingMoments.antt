@@ -2,8 +2,8 @@
 use Rattle.std.proofs.Common.{◌≡◌, ◌≢◌, ℕ, ◌+◌, ◌-◌, ◌<◌, ◌≤◌, List, [], length, sym, ap, subst, ◌∙◌, arith, inl, inr, ◌⊎◌, ⊎_elim, Some, set, get_or-set_same, get_or-set_other}
 use Rattle.std.proofs.lemmas.Bool.{cases_eq}
 use Rattle.std.proofs.lemmas.List.{length-set}
-use Rattle.sector_disk.specs.Disk.{DiskState, Image, sector, AddsOnly, IsImage, IsImageOr, IsStable, IsWrite}
-use Rattle.sector_disk.proofs.Moments.{image_or, stays, stays_or}
+use Rattle.sector_disk.specs.Disk.{DiskState, Image, sector, AddsOnly, ChangesOnly, Elapses, IsImage, IsImageOr, IsStable, IsWrite, LeavesOnly}
+use Rattle.sector_disk.proofs.Moments.{adds_nothing, adds_write, goes_on, image_or, joined, started, stays, stays_or, weaker}
 use Rattle.fs_layout.specs.declared.geometry.Geometry.{Geometry}
 use Rattle.fs_layout.specs.Bytes.{zeros}
 use Rattle.fs_layout.specs.Commit.{commit_bytes}
@@ -43,6 +43,33 @@ cleared old new content room zero size whole put stable = record {
 pub still_cleared : (old : DiskState) → IsCleared old → (image : Image) → IsImageOr BehindSuperblock old image → HasNoSuperblock image
 still_cleared old at_rest image is = stays at_rest.stable at_rest.whole is 0 (λ content lt. omega (arith, lt)) ∙ at_rest.cleared
 
+-- what several writes add, and then what more of them add
+pub adds_joined : {R : ℕ → List ℕ → Type 0} {old mid new : DiskState} → AddsOnly R old mid → AddsOnly R mid new → AddsOnly R old new
+adds_joined first second = record {
+  size = second.size ∙ first.size;
+  nothing_else = λ n content holds. ⊎_elim (first.nothing_else n content) (λ more. inr more) (second.nothing_else n content holds);
+}
+
+pub image_joined : {R : ℕ → List ℕ → Type 0} {old mid : DiskState} → AddsOnly R old mid → (image : Image) → IsImageOr R mid image → IsImageOr R old image
+image_joined {old = old} {mid} first image is = record {
+  size = is.size ∙ first.size;
+  each = λ n below. ⊎_elim (first.nothing_else n (sector image n)) (λ more. inr more) (is.each n (omega (arith, below, first.size)));
+}
+
+-- a sector behind the superblock is written, and then more of them
+module _ {old mid : DiskState} {n : ℕ} {content : List ℕ} (later : 1 ≤ n) (changes : ChangesOnly old mid n content) where
+  pub adds_one : AddsOnly BehindSuperblock old mid
+  adds_one = adds_write adds_nothing changes (λ k c is same. omega (arith, is, later))
+
+  module _ (only_now : (image : Image) → old.left_since old.moment image → IsImage old image) (at_rest : IsCleared old) (time : Elapses old mid) where
+    pub leaves_none : LeavesOnly old mid HasNoSuperblock
+    leaves_none =
+        let start = started only_now (λ image is. still_cleared old at_rest image (image_or (adds_nothing {R = BehindSuperblock}) image is)) in
+        goes_on start time (λ image is. still_cleared old at_rest image (image_or adds_one image is))
+
+    pub leaves_none_then : {new : DiskState} → LeavesOnly mid new (IsImageOr BehindSuperblock mid) → LeavesOnly old new HasNoSuperblock
+    leaves_none_then run = joined leaves_none (weaker (λ image is. still_cleared old at_rest image (image_joined adds_one image is)) run)
+
 -- one sector of the tables more
 pub table_more : (p : Geometry) (old new : Image) (n : ℕ) (content : List ℕ) → n < length old → new ≡ set old n content → IsNewTable p n content
     → ((s : ℕ) → p.inode_bitmap ≤ s → s < n → IsNewTable p s (sector old s)) → (s : ℕ) → p.inode_bitmap ≤ s → s < n + 1
@@ -60,19 +87,6 @@ table_more p old new n content fits put is so_far s ge lt = elim (cases_eq s n) 
 pub same_beside : (old new : Image) (n k : ℕ) (content : List ℕ) → new ≡ set old n content → k ≢ n → sector new k ≡ sector old k
 same_beside old new n k content put ne = ap (λ (i : Image). sector i k) put ∙ get_or-set_other old n k content [] ne
 
--- what several writes add, and then what more of them add
-pub adds_joined : {R : ℕ → List ℕ → Type 0} {old mid new : DiskState} → AddsOnly R old mid → AddsOnly R mid new → AddsOnly R old new
-adds_joined first second = record {
-  size = second.size ∙ first.size;
-  nothing_else = λ n content holds. ⊎_elim (first.nothing_else n content) (λ more. inr more) (second.nothing_else n content holds);
-}
-
-pub image_joined : {R : ℕ → List ℕ → Type 0} {old mid : DiskState} → AddsOnly R old mid → (image : Image) → IsImageOr R mid image → IsImageOr R old image
-image_joined {old = old} {mid} first image is = record {
-  size = is.size ∙ first.size;
-  each = λ n below. ⊎_elim (first.nothing_else n (sector image n)) (λ more. inr more) (is.each n (omega (arith, below, first.size)));
-}
-
 -- the geometry of a disk has its size
 pub geometry_size : (version : Version) (size inodes : ℕ) (p : Geometry) → the_geometry version size inodes ≡ Some p → p.sectors ≡ size
 geometry_size version size inodes p e = ap (λ (q : Geometry). q.sectors) (geometry_is_laid_out size inodes e)
@@ -84,6 +98,12 @@ geometry_version version size inodes p e = ap (λ (q : Geometry). q.version) (ge
 -- and of so many inodes
 pub geometry_inodes : (version : Version) (size inodes : ℕ) (p : Geometry) → the_geometry version size inodes ≡ Some p → p.inodes ≡ inodes
 geometry_inodes version size inodes p e = ap (λ (q : Geometry). q.inodes) (geometry_is_laid_out size inodes e)
+
+-- what is so of these is so of what was asked for
+pub as_asked : (P : Version → ℕ → Type 0) (version : Version) (size inodes : ℕ) (p : Geometry) → the_geometry version size inodes ≡ Some p
+    → P p.version p.inodes → P version inodes
+as_asked P version size inodes p e x =
+    subst (λ (v : Version). P v inodes) (geometry_version version size inodes p e) (subst (λ (k : ℕ). P p.version k) (geometry_inodes version size inodes p e) x)
 
 -- the parts of the layout are on the disk
 pub record IsOnDisk (p : Geometry) (size : ℕ) : Type 0 where

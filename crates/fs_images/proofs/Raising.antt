@@ -1,8 +1,8 @@
 -- What stands on a disk while it is upgraded, and then.
-use Rattle.std.proofs.Common.{◌≡◌, ℕ, ◌<◌, ◌≤◌, List, [], length, refl, sym, ap, subst, ◌∙◌, arith, inl, inr, Result, Ok, Err, set, get_or-set_same, get_or-set_other}
+use Rattle.std.proofs.Common.{◌≡◌, ◌≢◌, ℕ, ◌<◌, ◌≤◌, List, [], length, refl, sym, ap, subst, ◌∙◌, arith, inl, inr, Result, Ok, Err, set, get_or-set_same, get_or-set_other}
 use Rattle.std.proofs.lemmas.Bool.{cases_eq}
 use Rattle.std.proofs.lemmas.List.{ext_get_or, length-set}
-use Rattle.std.specs.Prelude.{OnErr}
+use Rattle.std.specs.Prelude.{OnOk, OnErr}
 use Rattle.sector_disk.specs.Disk.{DiskState, Image, sector, IsImage, IsImageOr, IsNarrowed, IsSame, IsStable, IsWrite, Elapses, LeavesOnly, OnlyReads}
 use Rattle.sector_disk.proofs.Moments.{goes_on, joined, narrowed, one_call, reads_then, stable_image, stays, stays_or, weaker}
 use Rattle.fs_layout.specs.declared.superblock.Super.{Super}
@@ -16,6 +16,12 @@ use Rattle.fs_model.specs.Stands.{Stands, room_in}
 use Rattle.fs_model.proofs.Upgraded.{stands_in_version}
 use Rattle.fs_images.specs.Standing.{StandsFor, StandsForSome, StandsAs}
 use Rattle.fs_images.specs.Upgrading.{raised, IsSuperOf, SaysVersion, StandsRaised, IsHalfUpgraded, IsUpgraded, SyncsAlone}
+
+-- an upgrade leaves any version but the first
+pub kept_version : (version : Version) → version ≢ One → version ≡ raised version
+kept_version One other = absurd (other refl)
+kept_version Two other = refl
+kept_version Three other = refl
 
 -- ---- a superblock says one version
 
@@ -99,10 +105,10 @@ half_written old super content stable seen room is_super says image is = elim (s
         ])
 
 -- once it is
-pub written_upgraded : (old mid new : DiskState) (super : Super) (content : List ℕ) → StandsForSome old.seen → IsSuperOf old.seen super
-    → content ≡ super_bytes (with_version (raised super.version) super) → 0 < length old.seen → mid.seen ≡ old.seen → IsImage new new.seen
-    → new.seen ≡ set mid.seen 0 content → IsStable new → IsUpgraded (raised super.version) old new
-written_upgraded old mid new super content some is says room stays seen written stable = record {
+written_upgraded : (old new : DiskState) (super : Super) (content : List ℕ) → StandsForSome old.seen → IsSuperOf old.seen super
+    → content ≡ super_bytes (with_version (raised super.version) super) → 0 < length old.seen → IsImage new new.seen
+    → new.seen ≡ set old.seen 0 content → IsStable new → IsUpgraded (raised super.version) old new
+written_upgraded old new super content some is says room seen put stable = record {
   some = some;
   says = (
     with_version (raised super.version) super,
@@ -118,14 +124,17 @@ written_upgraded old mid new super content some is says room stays seen written 
   others = others;
 }
   where
-    put : new.seen ≡ set old.seen 0 content
-    put = written ∙ ap (λ (i : Image). set i 0 content) stays
-
     first : sector new.seen 0 ≡ content
     first = ap (λ (i : Image). sector i 0) put ∙ get_or-set_same old.seen 0 content [] room
 
     others : (n : ℕ) → 1 ≤ n → sector new.seen n ≡ sector old.seen n
     others n later = ap (λ (i : Image). sector i n) put ∙ get_or-set_other old.seen 0 n content [] (λ (e : n ≡ 0). omega (arith, later, e))
+
+pub written_upgraded_if : {T E : Type 0} (r : Result T E) (old new : DiskState) (super : Super) (content : List ℕ) → StandsForSome old.seen
+    → IsSuperOf old.seen super → content ≡ super_bytes (with_version (raised super.version) super) → 0 < length old.seen → IsImage new new.seen
+    → OnOk r (new.seen ≡ set old.seen 0 content) → OnOk r (IsStable new) → OnOk r (IsUpgraded (raised super.version) old new)
+written_upgraded_if (Ok done) old new super content some is says room seen put stable = written_upgraded old new super content some is says room seen put stable
+written_upgraded_if (Err fault) old new super content some is says room seen put stable = tt
 
 -- where it has the version already
 pub synced_upgraded : (old new : DiskState) (super : Super) → StandsForSome old.seen → IsSuperOf old.seen super → super.version ≡ raised super.version
@@ -163,17 +172,22 @@ pub before_written : (old new : DiskState) → ((image : Image) → old.left_sin
 before_written old new only_now changes time = one_call only_now (as_it_was old) time (λ image is. as_it_was old image (narrowed changes is))
 
 -- one more
-pub synced_then : (old mid new : DiskState) → LeavesOnly old mid (IsHalfUpgraded old) → IsNarrowed old mid → IsNarrowed mid new → Elapses mid new
-    → LeavesOnly old new (IsHalfUpgraded old)
-synced_then old mid new so_far first second time = goes_on so_far time (λ image is. as_it_was old image (narrowed (narrowed_joined first second) is))
+pub read_and_synced : (old mid new : DiskState) → ((image : Image) → old.left_since old.moment image → IsImage old image) → IsNarrowed old mid → Elapses old mid
+    → IsNarrowed mid new → Elapses mid new → LeavesOnly old new (IsHalfUpgraded old)
+read_and_synced old mid new only_now first time second later =
+    goes_on (before_written old mid only_now first time) later (λ image is. as_it_was old image (narrowed (narrowed_joined first second) is))
 
--- and then the superblock is written
-pub written_then : (old mid new : DiskState) (super : Super) (content : List ℕ) → LeavesOnly old mid (IsHalfUpgraded old) → IsNarrowed old mid
-    → IsStable mid → IsImage mid mid.seen → 0 < mid.size → IsSuperOf old.seen super
-    → content ≡ super_bytes (with_version (raised super.version) super) → LeavesOnly mid new (IsImageOr (IsWrite 0 content) mid) → LeavesOnly old new (IsHalfUpgraded old)
-written_then old mid new super content so_far changes stable seen room is says run =
-    let super_is : IsSuperOf mid.seen super = subst (λ (i : Image). IsSuperOf i super) (sym changes.seen) is in
-    joined so_far (weaker (λ image may. from_narrowed old mid changes image (half_written mid super content stable seen room super_is says image may)) run)
+-- the superblock is written
+pub written_moments : (old new : DiskState) (super : Super) (content : List ℕ) → IsStable old → IsImage old old.seen → 0 < old.size → IsSuperOf old.seen super
+    → content ≡ super_bytes (with_version (raised super.version) super) → LeavesOnly old new (IsImageOr (IsWrite 0 content) old) → LeavesOnly old new (IsHalfUpgraded old)
+written_moments old new super content stable seen room is says run =
+    weaker (λ image may. half_written old super content stable seen room is says image may) run
+
+-- and another run after these
+pub raised_after : (old mid synced new : DiskState) → ((image : Image) → old.left_since old.moment image → IsImage old image) → IsNarrowed old mid → Elapses old mid
+    → IsNarrowed mid synced → Elapses mid synced → LeavesOnly synced new (IsHalfUpgraded synced) → LeavesOnly old new (IsHalfUpgraded old)
+raised_after old mid synced new only_now first time second later run =
+    joined (read_and_synced old mid synced only_now first time second later) (weaker (from_narrowed old synced (narrowed_joined first second)) run)
 
 -- nothing is changed where the superblock is read and the sync fails
 same_joined : {old mid new : DiskState} → IsSame old mid → IsSame mid new → IsSame old new
@@ -189,6 +203,17 @@ on_err (Err e) p = p
 pub not_synced : {T E : Type 0} (old mid new : DiskState) (result : Result T E) → IsSame old mid → IsSame mid new → SyncsAlone old new result
 not_synced old mid new result first second = record { narrowed = (same_joined first second).narrowed; failed = on_err result (same_joined first second) }
 
+-- ---- after what changes nothing
+
+pub upgraded_from : (version : Version) (old mid new : DiskState) → mid.seen ≡ old.seen → IsUpgraded version mid new → IsUpgraded version old new
+upgraded_from version old mid new same is = record {
+  some = subst StandsForSome same is.some;
+  says = is.says;
+  each = λ image left. subst (λ (i : Image). StandsRaised i image) same (is.each image left);
+  stable = is.stable;
+  others = λ n later. is.others n later ∙ ap (λ (i : Image). sector i n) same;
+}
+
 -- ---- after a check, which only reads
 
 module _ (old mid : DiskState) (reads : OnlyReads old mid) where
@@ -198,13 +223,7 @@ module _ (old mid : DiskState) (reads : OnlyReads old mid) where
       reads_then reads (weaker (from_narrowed old mid reads.narrowed) run) (λ image left. as_it_was old image (only_now image left))
 
   pub then_upgraded : (version : Version) (new : DiskState) → IsUpgraded version mid new → IsUpgraded version old new
-  then_upgraded version new is = record {
-    some = subst StandsForSome reads.narrowed.seen is.some;
-    says = is.says;
-    each = λ image left. subst (λ (i : Image). StandsRaised i image) reads.narrowed.seen (is.each image left);
-    stable = is.stable;
-    others = λ n later. is.others n later ∙ ap (λ (i : Image). sector i n) reads.narrowed.seen;
-  }
+  then_upgraded version new = upgraded_from version old mid new reads.narrowed.seen
 
   pub then_narrowed : {T E : Type 0} (new : DiskState) (result : Result T E) → ((SaysVersion One mid.seen → ⊥) → SyncsAlone mid new result)
       → (SaysVersion One old.seen → ⊥) → IsNarrowed old new

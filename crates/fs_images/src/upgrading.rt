@@ -1,7 +1,7 @@
 //! Upgrading a file system to the second version of the layout.
 
-ghost use Rattle.std.specs.Prelude.{◌≡◌, ◌≤◌, IfOk, IfErr};
-ghost use Rattle.sector_disk.specs.Disk.{HasCause, IsSame, Elapses, IsNarrowed, LeavesOnly};
+ghost use Rattle.std.specs.Prelude.{◌≡◌, ◌≤◌, OnOk, IfOk, IfErr};
+ghost use Rattle.sector_disk.specs.Disk.{HasCause, IsSame, IsStable, Elapses, IsNarrowed, LeavesOnly};
 ghost use Rattle.fs_layout.specs.Superblock.{super_bytes, with_version};
 ghost use Rattle.fs_layout.specs.declared.version.Version.TheVariants.{One, Two};
 ghost use Rattle.fs_images.specs.Standing.{StandsForSome};
@@ -47,12 +47,25 @@ fn raise_version<D: Disk>(disk: &mut D) -> Result<Version, DiskFault>
     disk.sync()?;
     match superblock.version {
         Version::One => {
-            write_synced(disk, SUPERBLOCK, &raised(superblock))?;
+            write_raised(disk, superblock)?;
             Ok(Version::Two)
         }
-        Version::Two => Ok(Version::Two),
-        Version::Three => Ok(Version::Three),
+        version => Ok(version),
     }
+}
+
+// Writes the superblock of the second version over that of the first, and syncs.
+fn write_raised<D: Disk>(disk: &mut D, superblock: Super) -> Result<(), DiskFault>
+    requires some { StandsForSome (D.state disk.old).seen }
+    requires found { IsSuperOf (D.state disk.old).seen superblock }
+    requires version { superblock.version ≡ One }
+    requires stable { IsStable (D.state disk.old) }
+    ensures upgraded { OnOk result (IsUpgraded Two (D.state disk.old) (D.state disk.new)) }
+    ensures any_moment { LeavesOnly (D.state disk.old) (D.state disk.new) (IsHalfUpgraded (D.state disk.old)) }
+    ensures size { (D.state disk.new).size ≡ (D.state disk.old).size }
+    ensures cause { HasCause (D.state disk.old) (D.state disk.new) result }
+{
+    write_synced(disk, SUPERBLOCK, &raised(superblock))
 }
 
 // Reads the superblock.

@@ -1,11 +1,11 @@
 use Rattle.std.proofs.Common.{◌≡◌, ◌<◌, ◌∙◌, [], length, arith, ap, sym, subst, get_or-set_same}
 use Rattle.std.proofs.lemmas.Result.{on_ok_weaker}
-use Rattle.sector_disk.specs.Disk.{AddsOnly, Image, sector}
-use Rattle.sector_disk.proofs.Moments.{adds_narrowed, adds_nothing, adds_write, goes_on, image_or, joined, started, weaker}
+use Rattle.sector_disk.specs.Disk.{Image, sector}
+use Rattle.sector_disk.proofs.Moments.{adds_narrowed, goes_on, image_or}
 use Rattle.fs_layout.specs.Commit.{commit_bytes}
 use Rattle.fs_layout.proofs.Places.{is_a_geometry}
-use Rattle.fs_images.specs.Making.{BehindSuperblock, HoldsNewTables}
-use Rattle.fs_images.proofs.MakingMoments.{adds_joined, image_joined, geometry_on_disk, prepared, still_cleared}
+use Rattle.fs_images.specs.Making.{HoldsNewTables}
+use Rattle.fs_images.proofs.MakingMoments.{adds_joined, adds_one, leaves_none, leaves_none_then, geometry_on_disk, prepared, still_cleared}
 use Rattle.fs_images.proofs.new_disk.prepare.Goals as goal
 
 pub write-requires : goal.write-requires
@@ -20,16 +20,10 @@ write_tables-requires-clause-room g c =
 
 pub returns-clause-any_moment : goal.returns-clause-any_moment
 returns-clause-any_moment g c =
-    let before = g.D.Disk.state c.args.disk.now in
-    let written = g.D.Disk.state c.write.new.self in
-    let keep = still_cleared before c.requires.cleared in
-    let first : AddsOnly BehindSuperblock before written = adds_write adds_nothing c.write.ensures.changes (λ k content is same. omega (arith, is)) in
-    let tables : AddsOnly BehindSuperblock before (g.D.Disk.state c.write_tables.new.disk) = adds_joined first c.write_tables.ensures.adds in
-    let all = adds_narrowed tables c.sync.ensures.changes in
-    let start = started (g.met.D.Disk.only_now c.args.disk.now) (λ image is. keep image (image_or (adds_nothing {R = BehindSuperblock}) image is)) in
-    let one = goes_on start c.write.ensures.time (λ image is. keep image (image_or first image is)) in
-    let two = joined one (weaker (λ image is. keep image (image_joined first image is)) c.write_tables.ensures.any_moment) in
-    goes_on two c.sync.ensures.time (λ image is. keep image (image_or all image is))
+    let all = adds_narrowed (adds_joined (adds_one (omega arith) c.write.ensures.changes) c.write_tables.ensures.adds) c.sync.ensures.changes in
+    goes_on
+    (leaves_none_then (omega arith) c.write.ensures.changes (g.met.D.Disk.only_now c.args.disk.now) c.requires.cleared c.write.ensures.time c.write_tables.ensures.any_moment)
+    c.sync.ensures.time (λ image is. still_cleared (g.D.Disk.state c.args.disk.now) c.requires.cleared image (image_or all image is))
 
 pub returns-clause-prepared : goal.returns-clause-prepared
 returns-clause-prepared g c =
@@ -37,8 +31,7 @@ returns-clause-prepared g c =
     let written = g.D.Disk.state c.write.new.self in
     let after = g.D.Disk.state c.sync.new.self in
     let seen = c.sync.ensures.changes.seen in
-    let first : AddsOnly BehindSuperblock before written = adds_write adds_nothing c.write.ensures.changes (λ k content is same. omega (arith, is)) in
-    let all = adds_narrowed (adds_joined first c.write_tables.ensures.adds) c.sync.ensures.changes in
+    let all = adds_narrowed (adds_joined (adds_one (omega arith) c.write.ensures.changes) c.write_tables.ensures.adds) c.sync.ensures.changes in
     let room : 1 < length before.seen = omega (arith, (geometry_on_disk _ _ c.args.geometry.inodes c.args.geometry c.requires.geometry).least, c.requires.cleared.whole) in
     let commit : sector written.seen 1 ≡ commit_bytes [] =
     ap (λ (i : Image). sector i 1) c.in_ok-write.ensures.written.seen ∙ get_or-set_same before.seen 1 c.to_sector.result [] room ∙ c.to_sector.ensures ∙ ap commit_bytes c.idle.ensures in
@@ -50,20 +43,12 @@ returns-clause-prepared g c =
 
 pub returns-in_err-write-clause-any_moment : goal.returns-in_err-write-clause-any_moment
 returns-in_err-write-clause-any_moment g c =
-    let before = g.D.Disk.state c.args.disk.now in
-    let keep = still_cleared before c.requires.cleared in
-    let first : AddsOnly BehindSuperblock before (g.D.Disk.state c.write.new.self) = adds_write adds_nothing c.write.ensures.changes (λ k content is same. omega (arith, is)) in
-    let start = started (g.met.D.Disk.only_now c.args.disk.now) (λ image is. keep image (image_or (adds_nothing {R = BehindSuperblock}) image is)) in
-    goes_on start c.write.ensures.time (λ image is. keep image (image_or first image is))
+    leaves_none (omega arith) c.write.ensures.changes (g.met.D.Disk.only_now c.args.disk.now) c.requires.cleared c.write.ensures.time
 
 pub returns-in_err-write_tables-clause-any_moment : goal.returns-in_err-write_tables-clause-any_moment
 returns-in_err-write_tables-clause-any_moment g c =
-    let before = g.D.Disk.state c.args.disk.now in
-    let keep = still_cleared before c.requires.cleared in
-    let first : AddsOnly BehindSuperblock before (g.D.Disk.state c.write.new.self) = adds_write adds_nothing c.write.ensures.changes (λ k content is same. omega (arith, is)) in
-    let start = started (g.met.D.Disk.only_now c.args.disk.now) (λ image is. keep image (image_or (adds_nothing {R = BehindSuperblock}) image is)) in
-    let one = goes_on start c.write.ensures.time (λ image is. keep image (image_or first image is)) in
-    joined one (weaker (λ image is. keep image (image_joined first image is)) c.write_tables.ensures.any_moment)
+    leaves_none_then (omega arith) c.write.ensures.changes (g.met.D.Disk.only_now c.args.disk.now) c.requires.cleared c.write.ensures.time
+    c.write_tables.ensures.any_moment
 
 pub returns-clause-size : goal.returns-clause-size
 returns-clause-size g c = c.sync.ensures.changes.size ∙ c.write_tables.ensures.adds.size ∙ c.write.ensures.changes.size
