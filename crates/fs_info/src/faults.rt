@@ -8,7 +8,7 @@ use sector_disk::DiskFault;
 use thiserror::Error;
 
 /// Why an image says nothing of itself.
-#[derive(Clone, Copy, Debug, PartialEq, Eq, Error)]
+#[derive(Clone, Copy, Debug, Error)]
 pub enum InfoFault {
     /// The superblock says no layout that a disk of this size may have.
     #[error("NotAFileSystem")]

@@ -7,9 +7,8 @@ ghost use Rattle.sector_disk.specs.Disk.{sector, OnlyReads};
 ghost use Rattle.fs_info.specs.Infos.{IsWhyNoInfo};
 
 use crate::faults::InfoFault;
-use fs_check::{Finding, geometry_said};
+use fs_check::{Finding, commit_said, geometry_said};
 use fs_layout::{Commit, Geometry};
-use redo_journal::read_commit;
 use sector_disk::Disk;
 
 /// A disk whose superblock and commit were read: where its parts lie, and the log area and the targets of a sealed commit.
@@ -51,7 +50,7 @@ pub(crate) fn open_commit<D: Disk>(
     ensures fault { IfErr result (IsWhyNoInfo (D.state disk.old) (D.state disk.new)) }
     ensures reads { OnlyReads (D.state disk.old) (D.state disk.new) }
 {
-    let (area, found) = read_commit(disk, geometry.header)?;
+    let (area, found) = commit_said(disk, geometry)?;
     match found {
         Some(commit) => Ok((area, commit)),
         None => Err(InfoFault::Damaged(NO_COMMIT)),

@@ -1,26 +1,12 @@
-use Rattle.std.proofs.Common.{arith, subst, refl}
-use Rattle.std.specs.Prelude.{MatchOption}
-use Rattle.fs_layout.specs.Commit.{IsCommit, IsValidCommit}
-use Rattle.sector_disk.specs.Disk.{sector}
+use Rattle.std.proofs.Common.{refl}
 use Rattle.fs_model.specs.Rules.{no_commit}
-use Rattle.fs_check.proofs.Openings.{has_header, many_sectors}
+use Rattle.fs_check.proofs.Openings.{commit_in, none_valid}
 use Rattle.fs_info.proofs.opening.open_commit.Goals as goal
 
-pub read_commit-requires-clause-room : goal.read_commit-requires-clause-room
-read_commit-requires-clause-room g c = let many = many_sectors _ _ (record { geometry = c.args.geometry; is = c.requires }) in omega (arith, many)
-
-pub read_commit-requires-clause-header : goal.read_commit-requires-clause-header
-read_commit-requires-clause-header g c = has_header (g.D.Disk.state c.args.disk.now) c.args.geometry c.requires
-
 pub returns-in-Some-clause-targets : goal.returns-in-Some-clause-targets
-returns-in-Some-clause-targets g c =
-    let disk = g.D.Disk.state c.args.disk.now in
-    subst (λ found. MatchOption found (IsValidCommit disk.size (sector disk.seen) → ⊥) (λ targets. IsCommit disk.size (sector disk.seen) targets)) c.in-Some.is c.in_ok-area.ensures.commit
+returns-in-Some-clause-targets g c = commit_in (g.D.Disk.state c.args.disk.now) _ _ c.in-Some.is c.in_ok-area.ensures.commit
 
 pub returns-in-None-clause-fault : goal.returns-in-None-clause-fault
 returns-in-None-clause-fault g c =
-    let disk = g.D.Disk.state c.args.disk.now in (
-      refl,
-      no_commit (record { geometry = c.args.geometry; is = c.requires })
-          (subst (λ found. MatchOption found (IsValidCommit disk.size (sector disk.seen) → ⊥) (λ targets. IsCommit disk.size (sector disk.seen) targets)) c.in-None.is c.in_ok-area.ensures.commit),
-    )
+    let none = none_valid (g.D.Disk.state c.args.disk.now) _ c.in-None.is c.in_ok-area.ensures.commit in
+    (refl, no_commit (record { geometry = c.args.geometry; is = c.requires }) none)
