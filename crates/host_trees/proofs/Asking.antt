@@ -14,12 +14,12 @@ use Rattle.std.proofs.lemmas.Bool.{and_parts, true≢false}
 use Rattle.std.proofs.lemmas.List.Elements.{All-nil, All-cons, All-append}
 use Rattle.fs_model.specs.declared.event.Event.{Event}
 use Rattle.fs_model.specs.declared.reply.Reply.{Reply}
-use Rattle.fs_model.specs.declared.event.Event.TheVariants.{Spawn, Exit, Call as Calls, Enter, Stamp, Clock, Fsync, Sync, Statfs, Arm, Restart}
+use Rattle.fs_model.specs.declared.event.Event.TheVariants.{Spawn, Exit, Call as Calls, Stamp, Sync}
 use Rattle.fs_model.specs.declared.reply.Reply.TheVariants.{Done}
 use Rattle.fs_model.specs.Steps.{is_of_machine}
 use Rattle.host_trees.specs.declared.fault.Copied.{Copied}
 use Rattle.host_trees.specs.declared.fault.CopyFault.{CopyFault}
-use Rattle.host_trees.specs.Copies.{Asked, Asks, AsksTelling, ServesAll, stays, goes, IsOfCopying, is_done, is_whole, synced, ArePacking, AreUnpacking, Copies}
+use Rattle.host_trees.specs.Copies.{Asked, Asks, AsksTelling, ServesAll, stays, goes, IsOfCopying, is_done, is_whole, synced, AreCopying, ArePacking, AreUnpacking, Copies}
 
 module _ {M : Type 0} {Serves : M → Event → Reply → M → Type 0} where
   goes_then : {old mid new : M} {first rest : List Asked} → ServesAll Serves old first mid → ServesAll Serves mid rest new → ServesAll Serves old (first ++ rest) new
@@ -128,21 +128,16 @@ module _ {M : Type 0} {Serves : M → Event → Reply → M → Type 0} where
     are = (all.asked, refl, record { own = all.own; done = λ whole. all.done (sym same ∙ whole) });
   }
 
+  in_part : {old new : M} {was is : Bool} (all : Asks Serves old new was is) → AreCopying all.asked false
+  in_part all = record { own = all.own; done = λ whole. absurd (true≢false (sym whole)) }
+
   pub not_unpacked : {old new : M} {was is : Bool} (fault : CopyFault) → Asks Serves old new was is
       → Copies Serves old new (λ asked. AreUnpacking asked (Err fault))
-  not_unpacked fault all = record {
-    asked = all.asked;
-    goes = all.goes;
-    are = record { own = all.own; done = λ whole. absurd (true≢false (sym whole)) };
-  }
+  not_unpacked fault all = record { asked = all.asked; goes = all.goes; are = in_part all }
 
   pub not_packed : {old new : M} {was is : Bool} (fault : CopyFault) → Asks Serves old new was is
       → Copies Serves old new (λ asked. ArePacking asked (Err fault))
-  not_packed fault all = record {
-    asked = all.asked;
-    goes = all.goes;
-    are = record { own = all.own; done = λ whole. absurd (true≢false (sym whole)) };
-  }
+  not_packed fault all = record { asked = all.asked; goes = all.goes; are = in_part all }
 
   -- between the same states
   pub copies_along : {old start last new : M} {Are : List Asked → Type 0} → start ≡ old → new ≡ last → Copies Serves start last Are
@@ -161,9 +156,4 @@ of_machine (Exit pid) own = refl
 of_machine (Calls pid call) own = refl
 of_machine (Stamp ino atime mtime ctime) own = refl
 of_machine Sync own = refl
-of_machine (Enter pid directory second) own = absurd own
-of_machine (Clock now) own = absurd own
-of_machine (Fsync pid fd) own = absurd own
-of_machine Statfs own = absurd own
-of_machine (Arm passes) own = absurd own
-of_machine (Restart choice arm) own = absurd own
+of_machine _ own = absurd own

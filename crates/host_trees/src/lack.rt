@@ -67,20 +67,28 @@ pub(crate) fn lack_in(reply: Reply) -> Lack {
     lack
 }
 
+impl Lack {
+    // What is lacking. More is known where the host refuses.
+    fn text(self) -> &'static str {
+        match self {
+            Lack::Kind => "no file, directory or link",
+            Lack::Name => "a name that is no UTF-8",
+            Lack::Bits => "set-id or sticky bits",
+            Lack::Times => "times before 1970 or after 2554",
+            Lack::List => "an access list",
+            Lack::Host(_) => "host",
+            Lack::Refused(errno) => errno.name(),
+            Lack::Short => "cut short",
+            Lack::Memory => "out of memory",
+        }
+    }
+}
+
 /// Names an object, and what is lacking. A line that can't be written is left out.
 pub(crate) fn tell<E: Write>(err: &mut E, path: &str, lack: Lack) {
+    let text = lack.text();
     let _ = match lack {
-        Lack::Kind => writeln!(err, "{path:?}: no file, directory or link"),
-        Lack::Name => writeln!(err, "{path:?}: a name that is no UTF-8"),
-        Lack::Bits => writeln!(err, "{path:?}: set-id or sticky bits"),
-        Lack::Times => writeln!(err, "{path:?}: times before 1970 or after 2554"),
-        Lack::List => writeln!(err, "{path:?}: an access list"),
-        Lack::Host(kind) => writeln!(err, "{path:?}: host: {kind:?}"),
-        Lack::Refused(errno) => {
-            let name = errno.name();
-            writeln!(err, "{path:?}: {name}")
-        }
-        Lack::Short => writeln!(err, "{path:?}: cut short"),
-        Lack::Memory => writeln!(err, "{path:?}: out of memory"),
+        Lack::Host(kind) => writeln!(err, "{path:?}: {text}: {kind:?}"),
+        _ => writeln!(err, "{path:?}: {text}"),
     };
 }

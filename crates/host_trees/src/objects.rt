@@ -12,6 +12,7 @@ use crate::work::{Made, Pending, Work, hand_for, path_of};
 use crate::writing::write_contents;
 use fs_layout::ROOT;
 use fs_model::{Call, Event, Flags, Path};
+use std::alloc::Global;
 use std::fs;
 use std::io::Read;
 use std::rt::Files;
@@ -91,13 +92,22 @@ pub(crate) fn pack_link<R: Files + AllocGlobal, M: FileSystem>(
 ) -> Result<(), Lack>
     ensures { Asks M.Serves asker.old.machine asker.new.machine asker.old.is_whole asker.new.is_whole }
 {
-    let leads = fs::read_link(rt, object.host.as_str())?;
+    let target = target_of(rt, work.alloc, object)?;
     let pid = hand_for(asker, work, entry.owner)?;
-    let target = path_of(work.alloc, leads.as_str())?;
     let place = place_of(work, pid, object);
     let path = place.path()?;
     asker.perform(pid, Call::Symlink { target, path })?;
     stamp_at(asker, place, entry.times)
+}
+
+// Where a symbolic link of the host leads.
+fn target_of<R: Files + AllocGlobal>(
+    rt: &R,
+    alloc: Global,
+    object: &Pending,
+) -> Result<Path, Lack> {
+    let leads = fs::read_link(rt, object.host.as_str())?;
+    Ok(path_of(alloc, leads.as_str())?)
 }
 
 /// Gives an object that was copied before another name.

@@ -151,6 +151,15 @@ fn root_cred(alloc: Global) -> Result<Cred, Lack> {
     }
 }
 
+// What stands at a place, and what it gets on the host.
+fn seen_at<M: FileSystem>(asker: &mut Asker<M>, place: Place<'_>) -> Result<(Status, Grants), Lack>
+    ensures { Asks M.Serves asker.old.machine asker.new.machine asker.old.is_whole asker.new.is_whole }
+{
+    let status = place.status(asker)?;
+    let grants = grants_of(asker, place, status)?;
+    Ok((status, grants))
+}
+
 // ---- the walk
 
 // Makes the directory for the root.
@@ -162,9 +171,7 @@ fn unpack_root<R: Files, M: FileSystem>(
 ) -> Result<(), Lack>
     ensures { Asks M.Serves asker.old.machine asker.new.machine asker.old.is_whole asker.new.is_whole }
 {
-    let root = work.place(b"/");
-    let status = root.status(asker)?;
-    let grants = grants_of(asker, root, status)?;
+    let (status, grants) = seen_at(asker, work.place(b"/"))?;
     let host = String::from_str(work.alloc, to)?;
     let inside = Vec::new(work.alloc);
     make_directory(rt, work, Pending { inside, host }, status.ino, grants)
@@ -307,9 +314,7 @@ fn unpack_object<R: Files + AllocGlobal, M: FileSystem>(
 ) -> Result<(), Lack>
     ensures { Asks M.Serves asker.old.machine asker.new.machine asker.old.is_whole asker.new.is_whole }
 {
-    let place = work.place(&object.inside);
-    let status = place.status(asker)?;
-    let grants = grants_of(asker, place, status)?;
+    let (status, grants) = seen_at(asker, work.place(&object.inside))?;
     if let FileType::Directory = status.kind {
         let directory = copy_of(work.alloc, object)?;
         return make_directory(rt, work, directory, status.ino, grants);
@@ -387,9 +392,23 @@ fn unpack_file<R: Files, M: FileSystem>(
         .create_new(true)
         .mode(PRIVATE_FILE)
         .open(rt, object.host.as_str())?;
-    read_file(asker, work, object, &mut file)?;
+    fill_file(asker, work, object, &mut file, ino, grants)
+}
+
+// Gives a file of the host what one holds, its mode and its times.
+fn fill_file<F: OpenFile + Write, M: FileSystem>(
+    asker: &mut Asker<M>,
+    work: &Work,
+    object: &Pending,
+    file: &mut F,
+    ino: u32,
+    grants: Grants,
+) -> Result<(), Lack>
+    ensures { Asks M.Serves asker.old.machine asker.new.machine asker.old.is_whole asker.new.is_whole }
+{
+    read_file(asker, work, object, file)?;
     let stamps = stamps_of(asker, ino)?;
-    Ok(finish_file(&file, grants.mode, stamps)?)
+    Ok(finish_file(file, grants.mode, stamps)?)
 }
 
 // Reads a file, and writes what it holds to one of the host.

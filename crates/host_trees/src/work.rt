@@ -28,12 +28,28 @@ pub(crate) struct Pending {
     pub(crate) inside: String,
 }
 
+impl Pending {
+    fn new(alloc: Global, host: &str, inside: &str) -> Result<Pending, AllocError> {
+        Ok(Pending {
+            host: String::from_str(alloc, host)?,
+            inside: String::from_str(alloc, inside)?,
+        })
+    }
+}
+
 /// A directory that was made, and what it gets once its names are there.
 #[derive(Drop)]
 pub(crate) struct Made {
     pub(crate) inside: String,
     pub(crate) ino: u32,
     pub(crate) entry: Entry,
+}
+
+impl Made {
+    fn new(alloc: Global, inside: &str, ino: u32, entry: Entry) -> Result<Made, AllocError> {
+        let inside = String::from_str(alloc, inside)?;
+        Ok(Made { inside, ino, entry })
+    }
 }
 
 // The process that makes objects of this owner.
@@ -74,17 +90,16 @@ impl Work {
             hand: None,
             names: BTreeMap::new(alloc),
         };
-        work.room.resize(ROOM, 0)?;
-        work.pending.push(Pending {
-            host: String::from_str(alloc, from)?,
-            inside: String::new(alloc),
-        })?;
-        work.made.push(Made {
-            inside: String::from_str(alloc, "/")?,
-            ino: ROOT,
-            entry,
-        })?;
+        work.begin(from, entry)?;
         Ok(work)
+    }
+
+    // The root is there, and its names are still to be copied.
+    fn begin(&mut self, from: &str, entry: Entry) -> Result<(), AllocError> {
+        self.room.resize(ROOM, 0)?;
+        self.made.push(Made::new(self.alloc, "/", ROOT, entry)?)?;
+        self.pending.push(Pending::new(self.alloc, from, "")?)?;
+        Ok(())
     }
 
     /// Keeps in mind what is still to be done of a directory that was made.
@@ -94,15 +109,11 @@ impl Work {
         ino: u32,
         entry: Entry,
     ) -> Result<(), Lack> {
-        self.made.push(Made {
-            inside: String::from_str(self.alloc, object.inside.as_str())?,
-            ino,
-            entry,
-        })?;
-        self.pending.push(Pending {
-            host: String::from_str(self.alloc, object.host.as_str())?,
-            inside: String::from_str(self.alloc, object.inside.as_str())?,
-        })?;
+        let Pending { host, inside } = object;
+        let made = Made::new(self.alloc, inside.as_str(), ino, entry)?;
+        self.made.push(made)?;
+        let pending = Pending::new(self.alloc, host.as_str(), inside.as_str())?;
+        self.pending.push(pending)?;
         Ok(())
     }
 

@@ -77,13 +77,25 @@ pub(crate) fn read_contents<F: Write, M: FileSystem>(
 {
     // Bounded, since each function has to end.
     for _ in 0..u64::MAX {
-        let bytes = read_piece(asker, pid, fd)?;
-        if bytes.bytes().is_empty() {
+        if !copy_piece(asker, pid, fd, to)? {
             return Ok(());
         }
-        to.write_all(bytes.bytes())?;
     }
     Err(Lack::Short)
+}
+
+// Reads the next bytes of a file, and writes them to one of the host. Whether there were any.
+fn copy_piece<F: Write, M: FileSystem>(
+    asker: &mut Asker<M>,
+    pid: usize,
+    fd: usize,
+    to: &mut F,
+) -> Result<bool, Lack>
+    ensures { Asks M.Serves asker.old.machine asker.new.machine asker.old.is_whole asker.new.is_whole }
+{
+    let bytes = read_piece(asker, pid, fd)?;
+    to.write_all(bytes.bytes())?;
+    Ok(!bytes.bytes().is_empty())
 }
 
 // The next bytes of a file.

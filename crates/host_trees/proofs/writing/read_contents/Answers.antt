@@ -5,13 +5,10 @@ pub loop-init : goal.loop-init
 loop-init g c = asks_nothing _ _
 
 pub loop-preserved : goal.loop-preserved
-loop-preserved g c = asks_then c.loop.invariant c.read_piece.ensures
+loop-preserved g c = asks_then c.loop.invariant c.copy_piece.ensures
 
-pub returns-in_err-bytes : goal.returns-in_err-bytes
-returns-in_err-bytes g c = asks_then c.loop.invariant c.read_piece.ensures
+pub returns-in_err-copy_piece : goal.returns-in_err-copy_piece
+returns-in_err-copy_piece g c = asks_then c.loop.invariant c.copy_piece.ensures
 
-pub returns-then-is_empty : goal.returns-then-is_empty
-returns-then-is_empty g c = asks_then c.loop.invariant c.read_piece.ensures
-
-pub returns-in_err-write_all : goal.returns-in_err-write_all
-returns-in_err-write_all g c = asks_then c.loop.invariant c.read_piece.ensures
+pub returns-then-not-branch : goal.returns-then-not-branch
+returns-then-not-branch g c = asks_then c.loop.invariant c.copy_piece.ensures
