@@ -1,5 +1,5 @@
 -- What is asked of a file system for a copy is a history of it.
-use Rattle.std.specs.Prelude.{List, [], ◌∷◌, map, Ok}
+use Rattle.std.specs.Prelude.{◌≡◌, List, [], ◌∷◌, map, Result, Ok}
 use Rattle.sector_disk.specs.Disk.{DiskState}
 use Rattle.fs_model.specs.States.{State}
 use Rattle.fs_model.specs.declared.event.Event.TheVariants.{Sync}
@@ -13,7 +13,12 @@ use Rattle.fs_system.specs.Seen.{System, disk_in, IsIn}
 use Rattle.fs_system.proofs.Played.{plays_nothing, plays_joined, seen_in, the_disk}
 use Rattle.fs_fuse.specs.Performing.{ServesOne}
 use Rattle.host_trees.specs.Copies.{Asked, Copies, ServesAll, stays, goes}
-use Rattle.fs_program.specs.Copying.{CopiesOn}
+use Rattle.host_trees.specs.declared.fault.Copied.{Copied}
+use Rattle.host_trees.specs.declared.fault.CopyFault.{CopyFault}
+use Rattle.host_trees.proofs.Asking.{copies_along}
+use Rattle.fs_command.specs.declared.status.Status.{Status}
+use Rattle.fs_program.specs.declared.failure.Failure.{Failure}
+use Rattle.fs_program.specs.Copying.{CopiesOn, MountedEnds, copy_end}
 
 module _ {D : Type 0} (state : D → DiskState) where
   asked_plays : (old new : System D) (asked : List Asked) → ServesAll (ServesOne state) old asked new
@@ -55,3 +60,18 @@ module _ {D : Type 0} (state : D → DiskState) where
             u = done.0;
             unmounts = seen_in state (λ x. Does x (state left) t Sync reply done.0) now.base d is.0 done.1;
           }
+
+-- a file system that was copied to or from, and unmounted
+pub mounted_ends : {D : Type 0} {state : D → DiskState} {fs start last now : System D} {left : D} (Are : List Asked → Result Copied CopyFault → Type 0)
+    (failure : CopyFault → Failure) (copied : Result Copied CopyFault) (reply : Reply) (result : Result Status Failure)
+    → start ≡ fs → now ≡ last → Copies (ServesOne state) start last (λ asked. Are asked copied) → HappensLast state now left Sync reply
+    → result ≡ copy_end failure copied reply → MountedEnds state Are failure fs result
+mounted_ends {now = now} {left} Are failure copied reply result begun ended copies unmounts is_end = record {
+  copied = copied;
+  reply = reply;
+  now = now;
+  left = left;
+  copies = copies_along begun ended copies;
+  unmounts = unmounts;
+  is_end = is_end;
+}

@@ -1,5 +1,5 @@
 -- How a tree is copied to a disk and from one, and with which status that ends.
---     copied_status, kept_end, copy_end        the status of a copy, and what the unmount after it is answered
+--     copied_status, copy_end        the status of a copy, and what the unmount after it is answered
 --     MountedEnds        a tree is copied to a file system or from it, and that is unmounted
 --     CopiesOn        a tree is copied to a file system that is mounted for it, or from it
 --     PackEnds, UnpackEnds        a disk is made a file system with a tree, and a tree is copied from a disk
@@ -13,7 +13,6 @@ use Rattle.fs_model.specs.States.{State}
 use Rattle.fs_model.specs.declared.event.Event.TheVariants.{Sync}
 use Rattle.fs_model.specs.declared.event.EventReply.TheVariants.{Reply as Replies}
 use Rattle.fs_model.specs.declared.reply.Reply.{Reply}
-use Rattle.fs_model.specs.declared.reply.Reply.TheVariants as replies
 use Rattle.fs_images.specs.Making.{IsDeviceFault, IsNewDisk}
 use Rattle.fs_images.specs.declared.faults.MkfsFault.{MkfsFault}
 use Rattle.fs_images.specs.declared.faults.MkfsFault.TheVariants.{TooSmall}
@@ -29,6 +28,7 @@ use Rattle.host_trees.specs.declared.fault.CopyFault.{CopyFault}
 use Rattle.host_trees.specs.declared.fault.CopyFault.TheVariants.{NoDirectory}
 use Rattle.fs_fuse.specs.Performing.{ServesOne}
 use Rattle.fs_program.specs.declared.failure.Failure.{Failure}
+use Rattle.fs_program.specs.Unmounts.{unmount_end}
 use Rattle.fs_program.specs.declared.failure.Failure.TheVariants as failures
 use Rattle.fs_command.specs.declared.status.Status.{Status}
 use Rattle.fs_command.specs.declared.status.Status.TheVariants.{Done, Faulty}
@@ -37,15 +37,10 @@ abbrev pub copied_status : Copied → Status
 copied_status Whole = Done
 copied_status InPart = Faulty
 
--- what was copied, and what the unmount after it is answered
-abbrev pub kept_end : Copied → Reply → Result Status Failure
-kept_end copied replies.Done = Ok (copied_status copied)
-kept_end copied reply = Err failures.Unmount
-
 -- the end of a copy that may have failed
 abbrev pub copy_end : (CopyFault → Failure) → Result Copied CopyFault → Reply → Result Status Failure
 copy_end failure (Err fault) reply = Err (failure fault)
-copy_end failure (Ok copied) reply = kept_end copied reply
+copy_end failure (Ok copied) reply = unmount_end (copied_status copied) reply
 
 -- A tree is copied to a file system, or from it, and then that is unmounted.
 pub record MountedEnds {D : Type 0} (state : D → DiskState) (Are : List Asked → Result Copied CopyFault → Type 0) (failure : CopyFault → Failure)

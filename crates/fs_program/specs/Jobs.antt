@@ -20,7 +20,6 @@ use Rattle.fs_layout.specs.Geometry.{laid_out, the_geometry}
 use Rattle.fs_model.specs.States.{State}
 use Rattle.fs_model.specs.declared.event.Event.TheVariants.{Sync}
 use Rattle.fs_model.specs.declared.reply.Reply.{Reply}
-use Rattle.fs_model.specs.declared.reply.Reply.TheVariants as replies
 use Rattle.fs_check.specs.Checks.{IsClean, IsFirst, IsReason, IsNone, Passed}
 use Rattle.fs_check.specs.declared.faults.CheckFault.{CheckFault}
 use Rattle.fs_check.specs.declared.faults.CheckFault.TheVariants.{Found, DiskFault, OutOfMemory}
@@ -49,6 +48,7 @@ use Rattle.fs_program.specs.Serving.{ImageFuseEnds}
 use Rattle.fs_program.specs.Programs.{RunsInMemory}
 use Rattle.fs_command.specs.Statuses.{code_of, status_of}
 use Rattle.fs_program.specs.Streams.{Reading, Writing}
+use Rattle.fs_program.specs.Unmounts.{unmount_end}
 use Rattle.fs_program.specs.InfoTexts.{info_text}
 use Rattle.fs_program.specs.Texts.{made_text, clean_text, found_text, version_text}
 use Rattle.fs_command.specs.Words.{AsksFor, Refuses, words_status}
@@ -72,11 +72,6 @@ ended (Err failure) = Failed
 abbrev pub run_status : Result Count RunFault → Status
 run_status (Ok count) = status_of count.faults
 run_status (Err fault) = Failed
-
--- a run, and what the unmount after it is answered
-abbrev pub run_end : Result Count RunFault → Reply → Result Status Failure
-run_end ran replies.Done = Ok (run_status ran)
-run_end ran reply = Err failures.Unmount
 
 -- a run in memory
 abbrev pub memory_end : Result Count Failure → Result Status Failure
@@ -167,7 +162,7 @@ pub record RunsOn {D : Type 0} (state : D → DiskState) (disk : D) (r : Reading
 pub data RunEnds {D : Type 0} (state : D → DiskState) (disk : D) (r : Reading) (w : Writing) (result : Result Status Failure) : Type 0 where
   cannot_mount : (now : D) (fault : MountFault) → IsNotMounted (state disk) (state now) fault → IsUndone w (failures.Mount fault) result
       → RunEnds state disk r w result
-  has_run : (ran : Result Count RunFault) (reply : Reply) → RunsOn state disk r w ran reply → result ≡ run_end ran reply
+  has_run : (ran : Result Count RunFault) (reply : Reply) → RunsOn state disk r w ran reply → result ≡ unmount_end (run_status ran) reply
       → RunEnds state disk r w result
 
 -- ---- jobs: of a file nothing is known but that it is some disk, and of one that is checked in part what it holds

@@ -5,5 +5,6 @@ pub mod Denials
 pub mod Explanations
 pub mod Programs
 pub mod Streams
+pub mod Unmounts
 pub mod Texts
 pub mod InfoTexts

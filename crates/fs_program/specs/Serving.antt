@@ -1,6 +1,6 @@
 -- How a disk is served to the kernel.
 --     settings_of        what is agreed on with it
---     served_status, fuse_end        how that ends
+--     served_status        how that ends
 --     ServesOn, FuseEnds        a disk is mounted, served and unmounted
 --     ImageFuseEnds        the job
 use Rattle.std.specs.Prelude.{◌≡◌, ◌-◌, Bool, not, List, ℕ, Option, IsSome, Result, Ok, Err}
@@ -10,7 +10,6 @@ use Rattle.fs_layout.specs.Version.{max_name, keeps_times}
 use Rattle.fs_model.specs.States.{State}
 use Rattle.fs_model.specs.declared.event.Event.TheVariants.{Sync}
 use Rattle.fs_model.specs.declared.reply.Reply.{Reply}
-use Rattle.fs_model.specs.declared.reply.Reply.TheVariants as replies
 use Rattle.fs_system.specs.Doing.{HappensLast}
 use Rattle.fs_system.specs.Mounts.{IsNotMounted, Mounts}
 use Rattle.fs_system.specs.Seen.{System, disk_in, IsIn}
@@ -22,6 +21,7 @@ use Rattle.fuse_serving.specs.Exchanges.{Exchange, SeesTime}
 use Rattle.fuse_serving.specs.declared.fault.ServeFault.{ServeFault}
 use Rattle.fs_fuse.specs.Performing.{ServingEnds}
 use Rattle.fs_program.specs.declared.failure.Failure.{Failure}
+use Rattle.fs_program.specs.Unmounts.{unmount_end}
 use Rattle.fs_program.specs.declared.failure.Failure.TheVariants as failures
 use Rattle.fs_command.specs.declared.status.Status.{Status}
 use Rattle.fs_command.specs.declared.status.Status.TheVariants.{Done, Failed}
@@ -43,11 +43,6 @@ settings_of geometry own_rules start = record {
 abbrev pub served_status : Result (Unit {0}) ServeFault → Status
 served_status (Ok done) = Done
 served_status (Err fault) = Failed
-
--- what was served, and what the unmount after it is answered
-abbrev pub fuse_end : Result (Unit {0}) ServeFault → Reply → Result Status Failure
-fuse_end served replies.Done = Ok (served_status served)
-fuse_end served reply = Err failures.Unmount
 
 -- A disk was mounted; the kernel's requests were served from its file system, until the end or a fault, and are one history of it
 -- either way; and then that was unmounted. The unmount makes all stable, as sync does.
@@ -73,7 +68,7 @@ pub data FuseEnds {D K : Type 0} (state : D → DiskState) (Does : K → Exchang
   cannot_mount : (now : D) (fault : MountFault) → IsNotMounted (state disk) (state now) fault → result ≡ Err (failures.Mount fault)
       → FuseEnds state Does disk own_rules before after result
   has_served : (served : Result (Unit {0}) ServeFault) (reply : Reply) → ServesOn state Does disk own_rules before after served reply
-      → result ≡ fuse_end served reply → FuseEnds state Does disk own_rules before after result
+      → result ≡ unmount_end (served_status served) reply → FuseEnds state Does disk own_rules before after result
 
 -- ---- of the kernel at the streams of a process nothing is known
 

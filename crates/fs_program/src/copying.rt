@@ -5,8 +5,9 @@ ghost use Rattle.fs_layout.specs.Geometry.{the_geometry};
 ghost use Rattle.fs_system.specs.Replies.{unmounted};
 ghost use Rattle.host_trees.specs.Copies.{ArePacking, AreUnpacking};
 ghost use Rattle.fs_program.specs.declared.failure.Failure.TheVariants.{Pack, Unpack};
-ghost use Rattle.fs_program.specs.Copying.{MountedEnds, PackEnds, UnpackEnds, copied_status, copy_end, kept_end};
+ghost use Rattle.fs_program.specs.Copying.{MountedEnds, PackEnds, UnpackEnds, copied_status, copy_end};
 
+use crate::disks::unmount_end;
 use crate::failure::Failure;
 use fs_command::Status;
 use fs_cred::Errno;
@@ -102,7 +103,7 @@ fn packed_end(packed: Result<Copied, CopyFault>, errno: Option<Errno>) -> Result
     ensures { result ≡ copy_end Pack packed (unmounted errno) }
 {
     match packed {
-        Ok(copied) => kept_end(copied, errno),
+        Ok(copied) => unmount_end(errno, status_of(copied)),
         Err(fault) => Err(Failure::Pack(fault)),
     }
 }
@@ -142,18 +143,8 @@ fn unpacked_end(
     ensures { result ≡ copy_end Unpack unpacked (unmounted errno) }
 {
     match unpacked {
-        Ok(copied) => kept_end(copied, errno),
+        Ok(copied) => unmount_end(errno, status_of(copied)),
         Err(fault) => Err(Failure::Unpack(fault)),
-    }
-}
-
-// How a copy ends, where the unmount is answered so.
-fn kept_end(copied: Copied, errno: Option<Errno>) -> Result<Status, Failure>
-    ensures { result ≡ kept_end copied (unmounted errno) }
-{
-    match errno {
-        None => Ok(status_of(copied)),
-        Some(_) => Err(Failure::Unmount),
     }
 }
 

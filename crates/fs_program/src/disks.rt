@@ -7,12 +7,15 @@ ghost use Rattle.fs_layout.specs.Geometry.{IsGeometry, the_geometry};
 ghost use Rattle.fs_images.specs.Upgrading.{IsHalfUpgraded};
 ghost use Rattle.fs_program.specs.Jobs.{IsOfRule, IsCheckTold, MkfsEnds, RunEnds, CheckEnds, UpgradeEnds, ended, run_status};
 ghost use Rattle.fs_program.specs.Streams.{reading, writing};
+ghost use Rattle.fs_program.specs.Unmounts.{unmount_end};
+ghost use Rattle.fs_system.specs.Replies.{unmounted};
 ghost use Rattle.fs_program.specs.Texts.{made_text, kinds_text, room_text, yes_text, clean_text, finding_text, found_text, version_text};
 
 use crate::explaining::print_explanation;
 use crate::failure::Failure;
 use fs_check::{CheckFault, Finding, Summary, check};
 use fs_command::Status;
+use fs_cred::Errno;
 use fs_images::{mkfs, upgrade};
 use fs_layout::{Geometry, Version};
 use fs_shell::{Count, RunFault, Watched, run};
@@ -98,7 +101,13 @@ pub(crate) fn run_on_disk<D: Disk + Drop, I: Read, O: Write, E: Write>(
     };
     let ran = run(alloc, input, out, &mut fs);
     let (_, errno) = fs.unmount();
-    let status = tell_run(ran, err);
+    unmount_end(errno, tell_run(ran, err))
+}
+
+/// How a job ends that has this status, where the unmount after it is answered so.
+pub(crate) fn unmount_end(errno: Option<Errno>, status: Status) -> Result<Status, Failure>
+    ensures { result ≡ unmount_end status (unmounted errno) }
+{
     match errno {
         None => Ok(status),
         Some(_) => Err(Failure::Unmount),
@@ -193,25 +202,21 @@ fn print_summary<O: Write>(summary: &Summary, out: &mut O) -> io::Result<()>
 fn print_kinds<O: Write>(summary: &Summary, out: &mut O) -> io::Result<()>
     ensures { OnOk result (Appends (O.contents out.old) (O.contents out.new) (kinds_text summary.now)) }
 {
-    let Summary {
-        files,
-        dirs,
-        links,
-        ..
-    } = summary;
-    write!(out, "clean files {files} dirs {dirs} links {links}")
+    write!(
+        out,
+        "clean files {} dirs {} links {}",
+        summary.files, summary.dirs, summary.links
+    )
 }
 
 fn print_room<O: Write>(summary: &Summary, out: &mut O) -> io::Result<()>
     ensures { OnOk result (Appends (O.contents out.old) (O.contents out.new) (room_text summary.now)) }
 {
-    let Summary {
-        nameless,
-        blocks,
-        inodes,
-        ..
-    } = summary;
-    write!(out, " nameless {nameless} blocks {blocks} inodes {inodes}")
+    write!(
+        out,
+        " nameless {} blocks {} inodes {}",
+        summary.nameless, summary.blocks, summary.inodes
+    )
 }
 
 pub(crate) fn yes_or_no(yes: bool) -> &'static str

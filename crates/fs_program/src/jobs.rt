@@ -136,12 +136,10 @@ fn make_image<R: Files<File: DiskFile> + AllocGlobal, O: Write>(
     let Some(geometry) = geometry_of(version, sectors, inodes) else {
         return Err(Failure::Mkfs(MkfsFault::TooSmall));
     };
-    let mut disk = match FileDisk::create(rt, rt.alloc(), image.as_str(), geometry.sectors) {
-        Ok(disk) => disk,
-        Err(FileFault::Exists) => return Err(Failure::Exists),
-        Err(FileFault::Failed | FileFault::OutOfMemory) => return Err(Failure::NotCreated),
-    };
-    make_on_disk(&mut disk, geometry, out)
+    match create_image(rt, image, geometry.sectors) {
+        Ok(mut disk) => make_on_disk(&mut disk, geometry, out),
+        Err(failure) => Err(failure),
+    }
 }
 
 // Makes an image of the third layout with the tree of a directory. Where that is none no file is made.

@@ -3,7 +3,7 @@
 ghost use Rattle.std.specs.Prelude.{◌≡◌};
 ghost use Rattle.fs_program.specs.Serving.{FuseEnds, served_status, settings_of};
 
-use crate::disks::tell;
+use crate::disks::{tell, unmount_end};
 use crate::failure::Failure;
 use fs_command::Status;
 use fs_fuse::serve_requests;
@@ -80,11 +80,7 @@ pub(crate) fn serve_on_disk<D: Disk + Drop, K: Kernel, W: Witness, E: Write>(
     let Rooms { request, reply } = &mut rooms;
     let (served, fs) = serve_requests(alloc, fs, settings, kernel, witness, request, reply);
     let (_, errno) = fs.unmount();
-    let status = tell_served(served, err);
-    match errno {
-        None => Ok(status),
-        Some(_) => Err(Failure::Unmount),
-    }
+    unmount_end(errno, tell_served(served, err))
 }
 
 // The status of what was served. Why it ended early is printed.

@@ -1,6 +1,7 @@
-use Rattle.std.proofs.Common.{refl, sym, ap, ◌∙◌, Ok}
+use Rattle.std.proofs.Common.{refl, ap, ◌∙◌}
 use Rattle.fs_system.specs.Replies.{unmounted}
-use Rattle.fs_program.specs.Serving.{cannot_begin, cannot_mount, has_served, fuse_end, settings_of}
+use Rattle.fs_program.specs.Serving.{cannot_begin, cannot_mount, has_served, settings_of}
+use Rattle.fs_program.specs.Unmounts.{unmount_end}
 use Rattle.fs_program.proofs.Sessions.{serves_on}
 use Rattle.fs_program.proofs.served.serve_on_disk.Goals as goal
 
@@ -12,20 +13,6 @@ returns-in-Err g c = cannot_begin _ refl
 
 pub returns-in-Err-mount : goal.returns-in-Err-mount
 returns-in-Err-mount g c = cannot_mount c.in-Err-mount.field-0-1 c.in-Err-mount.fault c.in-Err-mount.ensures.failed refl
-
-pub returns-in-None : goal.returns-in-None
-returns-in-None g c =
-    let first = c.in-Ok-mount.fs in
-    let start = c.in-Ok-now.start in
-    let served = c.serve_requests-served.result.0 in
-    let errno = c.unmount-errno.result.1 in
-    has_served served (unmounted errno)
-    (serves_on g.D.Disk.state g.K.Kernel.Does c.args.disk c.unmount-errno.result.0 first c.serve_requests-served.result.1 c.args.own_rules
-    c.args.kernel.now c.now.new.self c.serve_requests-served.new.kernel start c.settings_of-settings.result served (unmounted errno)
-    c.in-Ok-now.ensures c.in-Ok-mount.ensures.mounted
-    (c.settings_of-settings.ensures ∙ ap (λ p. settings_of p c.args.own_rules start) c.geometry.ensures)
-    c.serve_requests-served.ensures c.unmount-errno.ensures.does)
-    (ap Ok c.tell_served-status.ensures ∙ sym (ap (λ e. fuse_end served (unmounted e)) c.in-None.is))
 
 pub returns : goal.returns
 returns g c =
@@ -39,4 +26,4 @@ returns g c =
     c.in-Ok-now.ensures c.in-Ok-mount.ensures.mounted
     (c.settings_of-settings.ensures ∙ ap (λ p. settings_of p c.args.own_rules start) c.geometry.ensures)
     c.serve_requests-served.ensures c.unmount-errno.ensures.does)
-    (sym (ap (λ e. fuse_end served (unmounted e)) c.in-Some.is))
+    (c.unmount_end.ensures ∙ ap (λ s. unmount_end s (unmounted errno)) c.tell_served.ensures)
