@@ -33,7 +33,7 @@ all_clear size bytes zeros =
     bit_of size bytes n below ∙ ap (λ (x : ℕ). nat_eq (bit_at x (n % 8)) 1) (zeros (n / 8)) ∙ ap (λ (x : ℕ). nat_eq x 1) (bit_at-zero (n % 8))
     ∙ sym (get_or-replicate size n false false below))
 
-zero_bytes : (n : ℕ) (bytes : List ℕ) → bytes ≡ replicate n 0 → (i : ℕ) → get_or bytes i 0 ≡ 0
+pub zero_bytes : (n : ℕ) (bytes : List ℕ) → bytes ≡ replicate n 0 → (i : ℕ) → get_or bytes i 0 ≡ 0
 zero_bytes n bytes is i =
     ap (λ (l : List ℕ). get_or l i 0) is
     ∙ elim (cases_lt i n) [ inl lt ↦ get_or-replicate n i 0 0 lt | inr ge ↦ get_or_past (replicate n 0) i 0 (let z = length-replicate {A = ℕ} n 0 in omega (arith, z, ge)) ]
