@@ -62,21 +62,17 @@ pub returns-clause-names : goal.returns-clause-names
 returns-clause-names g c =
     let p = c.args.opened.now.geometry in
     let m = meaning (g.D.Disk.state c.args.disk.now) in
-    let len = c.requires.table.len in
-    let end = c.loop-dir_ino.auto.dir_ino-end in
     all_named p m p.inodes c.loop-dir_ino.names.counts.items c.loop-dir_ino.names.directories.items refl
     (whole_naming p m c.args.inodes.now c.requires.table c.loop-dir_ino.dir_ino c.loop-dir_ino.names.counts.items c.loop-dir_ino.names.directories.items c.loop-dir_ino.names.repeated
-    c.loop-dir_ino-test.false (omega (arith, end, len)) c.loop-dir_ino.invariant.naming).tally
+    c.loop-dir_ino-test.false (omega (arith, c.loop-dir_ino.auto.dir_ino-end, c.requires.table.len)) c.loop-dir_ino.invariant.naming).tally
 
 pub returns-clause-repeated : goal.returns-clause-repeated
 returns-clause-repeated g c =
     let p = c.args.opened.now.geometry in
     let m = meaning (g.D.Disk.state c.args.disk.now) in
-    let len = c.requires.table.len in
-    let end = c.loop-dir_ino.auto.dir_ino-end in
     all_repeated p m p.inodes c.loop-dir_ino.names.repeated (omega arith)
     (whole_naming p m c.args.inodes.now c.requires.table c.loop-dir_ino.dir_ino c.loop-dir_ino.names.counts.items c.loop-dir_ino.names.directories.items c.loop-dir_ino.names.repeated
-    c.loop-dir_ino-test.false (omega (arith, end, len)) c.loop-dir_ino.invariant.naming).repeated
+    c.loop-dir_ino-test.false (omega (arith, c.loop-dir_ino.auto.dir_ino-end, c.requires.table.len)) c.loop-dir_ino.invariant.naming).repeated
 
 pub overflow_cast-dir_ino-end : goal.overflow_cast-dir_ino-end
 overflow_cast-dir_ino-end g c =
