@@ -7,12 +7,11 @@ use Rattle.fuse_protocol.specs.declared.operation.Operation.{Operation}
 use Rattle.fuse_protocol.specs.declared.reply.Time.{Time}
 use Rattle.fuse_plans.specs.declared.request.Asked.{Asked}
 use Rattle.fuse_plans.specs.declared.request_error.RequestError.{RequestError}
-use Rattle.fuse_plans.specs.declared.request_error.RequestError.TheVariants.{Refuses, Lacks}
-use Rattle.fuse_plans.specs.declared.request_error.OtherErrno.TheVariants.{ENFILE, ERANGE, ENOSYS, ENODATA, EPROTO, EOPNOTSUPP, ESTALE}
 use Rattle.fuse_plans.specs.NamePlans.{plain_name, or_absent, found_or_absent, find_name, made, open_and_close, directory_and_caller, make_link, make_directory, make_file, remove, none_there, move_name, link_by_dentry, add_link}
 use Rattle.fuse_plans.specs.Alterations.{adds_name, moves_name, IsToldIn}
 use Rattle.fuse_plans.proofs.AlterPieces.{pieces, Asks, IsTold, asks-give, asks-fail}
 use Rattle.fuse_plans.proofs.AlterMasks.{asks-new_valid}
+use Rattle.fuse_plans.proofs.Leaving.{by-or_absent}
 
 module _ {o : Option Operation} where
   pub asks-plain_name : (name : List ℕ) → Asks o (plain_name name)
@@ -29,15 +28,7 @@ module _ {o : Option Operation} where
   asks-open_and_close pid d call told = search (pieces, told) depth 12
 
   asks-or_absent : (known : Result ℕ RequestError) → Asks o (or_absent known)
-  asks-or_absent (Ok n) = asks-give n
-  asks-or_absent (Err (Refuses r)) = asks-fail _
-  asks-or_absent (Err (Lacks ESTALE)) = asks-fail _
-  asks-or_absent (Err (Lacks ENFILE)) = asks-fail _
-  asks-or_absent (Err (Lacks ERANGE)) = asks-fail _
-  asks-or_absent (Err (Lacks ENOSYS)) = asks-fail _
-  asks-or_absent (Err (Lacks ENODATA)) = asks-fail _
-  asks-or_absent (Err (Lacks EPROTO)) = asks-fail _
-  asks-or_absent (Err (Lacks EOPNOTSUPP)) = asks-fail _
+  asks-or_absent known = by-or_absent (λ w. Asks o w) asks-give asks-fail known
 
   pub asks-found_or_absent : (nobody : Bool) (d : ℕ) (name : List ℕ) (seen : Result Status RequestError) → Asks o (found_or_absent nobody d name seen)
   asks-found_or_absent nobody d name (Ok status) = search pieces depth 12

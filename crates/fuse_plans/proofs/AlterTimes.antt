@@ -5,14 +5,10 @@ use Rattle.std.proofs.Common.{refl, sym, ap, subst, ◌∙◌}
 use Rattle.posix_acl.specs.AccessList.{AccessList}
 use Rattle.posix_acl.specs.declared.entry.Perms.{Perms}
 use Rattle.fs_cred.specs.Credentials.{Credential}
-use Rattle.fs_cred.specs.declared.refusal.Refusal.{Refusal}
 use Rattle.fs_layout.specs.Maps.{get}
 use Rattle.fs_model.specs.Limits.{run_limit}
 use Rattle.fs_model.specs.declared.call.AclType.{AclType}
-use Rattle.fs_model.specs.declared.call.Call.{Call}
-use Rattle.fs_model.specs.declared.event.Event.{Event}
 use Rattle.fs_model.specs.declared.reply.FileType.{FileType}
-use Rattle.fs_model.specs.declared.reply.Reply.{Reply}
 use Rattle.fs_model.specs.declared.reply.Status.{Status}
 use Rattle.fuse_protocol.specs.declared.operation.Extent.{Extent}
 use Rattle.fuse_protocol.specs.declared.operation.Offer.{Offer}
@@ -26,27 +22,24 @@ use Rattle.fuse_state.specs.Servers.{Server, forgotten, all_forgotten, times_of,
 use Rattle.fuse_state.proofs.Forgotten.{forgotten_keeps, all_forgotten_keep}
 use Rattle.fuse_plans.specs.declared.request.Asked.{Asked}
 use Rattle.fuse_plans.specs.declared.request_error.RequestError.{RequestError}
-use Rattle.fuse_plans.specs.declared.request_error.RequestError.TheVariants.{Refuses, Lacks}
-use Rattle.fuse_plans.specs.declared.request_error.OtherErrno.TheVariants.{ENFILE, ERANGE, ENOSYS, ENODATA, EPROTO, EOPNOTSUPP, ESTALE}
 use Rattle.fuse_plans.specs.Plans.{Finish}
 use Rattle.fuse_plans.specs.Requests.{asked_of}
-use Rattle.fuse_plans.specs.Works.{Work, give, fail, kept, keep, goes_on, ◌>>=◌, attempt, of_result, needed, ask, give_unless, refusal_in, unless_refused, or_closed}
-use Rattle.fuse_plans.specs.Callers.{settle_new, settle, retire_next, retire, settle_first, begin_process, or_spawned, caller, unused_of, or_unused, caller_with_room, the_server_process, between, look_inside, or_inside, standing_refusal, or_next, by_dentries, on, look_at, look, the_number, directory_number, standing_directory}
+use Rattle.fuse_plans.specs.Works.{Work, of_result}
 use Rattle.fuse_plans.specs.Flags.{is_trunc}
-use Rattle.fuse_plans.specs.NamePlans.{or_absent, found_or_absent, find_name}
-use Rattle.fuse_plans.specs.FilePlans.{when, touched_if, show_open, confirm_shown, confirm_open, open_file, the_open, seek, read_piece, read_pieces, read_file, close_file, sync_file}
+use Rattle.fuse_plans.specs.NamePlans.{found_or_absent, find_name}
+use Rattle.fuse_plans.specs.FilePlans.{touched_if, show_open, confirm_shown, confirm_open, open_file, the_open, seek, read_piece, read_pieces, read_file, close_file, sync_file}
 use Rattle.fuse_plans.specs.AttributePlans.{get_attributes, read_link, access_as, ask_access}
 use Rattle.fuse_plans.specs.ListingPlans.{find_listed, look_up_names, read_directory_plus}
 use Rattle.fuse_plans.specs.DirectoryPlans.{take_directory_if, take_directory, open_directory, tell_names, list_open, list_all, list_now, listed, list_kept, read_directory, close_directory, sync_all}
-use Rattle.fuse_plans.specs.Times.{told_stamps_if, told_stamps}
 use Rattle.fuse_plans.specs.AclPlans.{an_object, get_xattr, attribute_names, list_xattrs}
 use Rattle.fuse_plans.specs.Masks.{acl_of}
 use Rattle.fuse_plans.specs.Nobody.{who_counts_in, is_nobody}
 use Rattle.fuse_plans.specs.Serving.{Task, Replying, Silently, or_server_process, begin, count_space, end, plan_of, told_first, asked_for, response_of, answered, answered_as, request_plan}
 use Rattle.fuse_plans.specs.Alterations.{Alteration, resizes_open, says_change, says_change_in, IsToldIn}
 use Rattle.fuse_plans.specs.Laws.{OthersChangeNothing, OthersKeepTimes}
-use Rattle.fuse_plans.proofs.AllEnds.{AllEnd, all-weaker, all-followed_by, all-run}
+use Rattle.fuse_plans.proofs.AllEnds.{AllEnd, all-followed_by, all-run}
 use Rattle.fuse_plans.proofs.AlterPieces.{all-any}
+use Rattle.fuse_plans.proofs.Leaving.{IsOrder, SparesProcesses, Leaves, leaves-give, leaves-fail, leaves-kept, leaves-keep, leaves-ask, leaves->>=, leaves-attempt, leaves-if, leaves-when, leaves-needed, leaves-unless_refused, leaves-or_closed, leaves-caller, leaves-caller_with_room, leaves-the_server_process, leaves-between, leaves-look_inside, leaves-on, leaves-look, leaves-told_stamps, leaves-the_number, leaves-directory_number, leaves-standing_directory, leaves-searched_directory}
 
 -- ---- times
 
@@ -60,177 +53,20 @@ times-self s = record { times = refl; start = refl }
 times-then : {s t u : Server} → SameTimes s t → SameTimes t u → SameTimes s u
 times-then first later = record { times = later.times ∙ first.times; start = later.start ∙ first.start }
 
+times-order : IsOrder SameTimes
+times-order = record { itself = times-self; in_turn = λ s t u first later. times-then first later }
+
+times-spares : SparesProcesses SameTimes
+times-spares = record { begins = λ pid cred s. record { times = refl; start = refl }; ends = λ pid s. record { times = refl; start = refl } }
+
 -- whatever is replied, the times stay
-record Timeless {X : Type 0} (w : Work X) : Type 0 where
-  at : (s : Server) → AllEnd (λ r. SameTimes s r.1) (w s)
+abbrev Timeless : {X : Type 0} → Work X → Type 0
+Timeless w = Leaves SameTimes w
 
 abbrev KeepsTimes : (Server → Server) → Type 0
 KeepsTimes f = (s : Server) → SameTimes s (f s)
 
--- ---- pieces
-
-keeps-give : {X : Type 0} (x : X) → Timeless (give x)
-unfolding give
-keeps-give x = record { at = times-self }
-
-keeps-fail : {X : Type 0} (e : RequestError) → Timeless {X = X} (fail e)
-unfolding fail
-keeps-fail e = record { at = times-self }
-
-keeps-kept : {X : Type 0} (f : Server → X) → Timeless (kept f)
-unfolding kept
-keeps-kept f = record { at = times-self }
-
-keeps-keep : (f : Server → Server) → KeepsTimes f → Timeless (keep f)
-unfolding keep
-keeps-keep f same = record { at = same }
-
-keeps-ask : (e : Event) → Timeless (ask e)
-unfolding ask
-keeps-ask e = record { at = λ s reply. times-self s }
-
-keeps->>= : {X Y : Type 0} {w : Work X} {f : X → Work Y} → Timeless w → ((x : X) → Timeless (f x)) → Timeless (w >>= f)
-unfolding ◌>>=◌
-keeps->>= {X} {Y} {w} {f} first rest = record { at = λ s. all-followed_by (λ r. SameTimes s r.1) (λ r. SameTimes s r.1) (w s) (goes_on f) (first.at s) (after s) }
-  where
-    after : (s : Server) (r : Result X RequestError × Server) → SameTimes s r.1 → AllEnd (λ (q : Result Y RequestError × Server). SameTimes s q.1) (goes_on f r)
-    after s (Ok x, t) same = all-weaker (λ q. SameTimes t q.1) (λ q. SameTimes s q.1) (f x t) ((rest x).at t) (λ q later. times-then same later)
-    after s (Err e, t) same = same
-
-keeps-attempt : {X : Type 0} {w : Work X} → Timeless w → Timeless (attempt w)
-unfolding attempt
-keeps-attempt {X} {w} first = record {
-  at = λ s. all-followed_by (λ r. SameTimes s r.1) (λ r. SameTimes s r.1) (w s) (λ r. Finish (Ok r.0, r.1)) (first.at s) (λ r same. same);
-}
-
-keeps-if : {X : Type 0} (b : Bool) (w v : Work X) → Timeless w → Timeless v → Timeless (if b then w else v)
-keeps-if true w v first second = first
-keeps-if false w v first second = second
-
-keeps-when : (b : Bool) (w : Work (Unit {0})) → Timeless w → Timeless (when b w)
-keeps-when true w first = first
-keeps-when false w first = keeps-give tt
-
-keeps-needed : {X : Type 0} (e : RequestError) (o : Option X) → Timeless (needed e o)
-keeps-needed e None = keeps-fail e
-keeps-needed e (Some x) = keeps-give x
-
-keeps-unless_refused : (reply : Reply) → Timeless (unless_refused reply)
-keeps-unless_refused reply = go (refusal_in reply)
-  where
-    go : (o : Option Refusal) → Timeless (give_unless reply o)
-    go None = keeps-give reply
-    go (Some r) = keeps-fail _
-
-keeps-or_closed : {X : Type 0} (pid fd : ℕ) (r : Result X RequestError) → Timeless (or_closed pid fd r)
-keeps-or_closed pid fd (Ok x) = keeps-give x
-keeps-or_closed pid fd (Err e) = keeps->>= (keeps-ask _) (λ reply. keeps-fail e)
-
-ruleset basics = (keeps->>=, keeps-give, keeps-fail, keeps-kept, keeps-keep, keeps-attempt, keeps-if, keeps-when, keeps-needed, keeps-ask, keeps-unless_refused, keeps-or_closed)
-
--- ---- processes and calls
-
-keeps-settle_new : (cred : Credential) (pid : ℕ) (taken : Bool) → Timeless (settle_new cred pid taken)
-keeps-settle_new cred pid true = keeps-fail _
-keeps-settle_new cred pid false = keeps->>= (keeps-keep _ (λ s. record { times = refl; start = refl })) (λ added. keeps-give pid)
-
-keeps-settle : (cred : Credential) (reply : Reply) → Timeless (settle cred reply)
-keeps-settle cred reply = search (basics, keeps-settle_new) depth 16
-
-keeps-retire_next : (rest : Work (Unit {0})) (pid : Option ℕ) → Timeless rest → Timeless (retire_next rest pid)
-keeps-retire_next rest None after = keeps-give tt
-keeps-retire_next rest (Some pid) after =
-    keeps->>= (keeps-ask _) (λ reply. keeps->>= (keeps-keep _ (λ s. record { times = refl; start = refl })) (λ gone. after))
-
-keeps-retire : (k : ℕ) → Timeless (retire k)
-unfolding retire
-keeps-retire zero = keeps-give tt
-keeps-retire (suc k) = let later = keeps-retire k in keeps->>= (keeps-kept _) (λ pid. keeps-retire_next (retire k) pid later)
-
-keeps-settle_first : (cred : Credential) (reply : Reply) → Timeless (settle_first cred reply)
-keeps-settle_first cred reply = search (basics, keeps-settle, keeps-retire) depth 16
-
-keeps-or_spawned : (cred : Credential) (pid : Option ℕ) → Timeless (or_spawned cred pid)
-unfolding begin_process
-keeps-or_spawned cred None = search (basics, keeps-settle_first) depth 12
-keeps-or_spawned cred (Some pid) = keeps-give pid
-
-keeps-caller : (who : Option Credential) → Timeless (caller who)
-unfolding caller
-keeps-caller who = search (basics, keeps-or_spawned) depth 12
-
-keeps-unused_of : (cred : Credential) (may : Bool) → Timeless (unused_of cred may)
-keeps-unused_of cred false = keeps-fail _
-keeps-unused_of cred true = search (basics, keeps-or_spawned) depth 12
-
-keeps-or_unused : (cred : Credential) (pid : Option ℕ) → Timeless (or_unused cred pid)
-keeps-or_unused cred (Some pid) = keeps-give pid
-keeps-or_unused cred None = search (basics, keeps-unused_of) depth 12
-
-keeps-caller_with_room : (who : Option Credential) → Timeless (caller_with_room who)
-unfolding caller_with_room
-keeps-caller_with_room who = search (basics, keeps-or_unused) depth 12
-
-keeps-the_server_process : Timeless the_server_process
-unfolding the_server_process
-keeps-the_server_process = search basics depth 12
-
-keeps-between : (pid directory second : ℕ) (call : Call) → Timeless (between pid directory second call)
-unfolding between
-keeps-between pid directory second call = search basics depth 16
-
-keeps-look_inside : (pid directory : ℕ) (name : List ℕ) → Timeless (look_inside pid directory name)
-unfolding look_inside
-keeps-look_inside pid directory name = search (basics, keeps-between) depth 12
-
-keeps-or_inside : (pid n : ℕ) (call : List ℕ → Call) (kind : Option FileType) (r : Result Reply RequestError) → Timeless (or_inside pid n call kind r)
-keeps-or_inside pid n call kind (Ok reply) = keeps-give reply
-keeps-or_inside pid n call kind (Err e) = search (basics, keeps-between) depth 12
-
-keeps-or_next : {next : RequestError → Work Reply} → ((e : RequestError) → Timeless (next e)) → (r : Result Reply RequestError) → Timeless (or_next next r)
-keeps-or_next rest (Ok reply) = keeps-give reply
-keeps-or_next rest (Err e) = keeps-if _ _ _ (rest e) (keeps-fail e)
-
-keeps-by_dentries : (pid : ℕ) (second : Option ℕ) (call : List ℕ → Call) (before : RequestError) (dentries : List Dentry) → Timeless (by_dentries pid second call before dentries)
-unfolding by_dentries
-keeps-by_dentries pid second call before [] = keeps-fail before
-keeps-by_dentries pid second call before (p ∷ others) =
-    keeps->>= (keeps-attempt (keeps-between pid p.dir_ino _ (call p.name)))
-    (keeps-or_next (λ e. keeps-by_dentries pid second call (standing_refusal before e) others))
-
-keeps-on : (pid n : ℕ) (call : List ℕ → Call) → Timeless (on pid n call)
-unfolding on
-keeps-on pid n call = search (basics, keeps-by_dentries, keeps-or_inside) depth 16
-
-keeps-look_at : (n : ℕ) (placed : Bool) → Timeless (look_at n placed)
-keeps-look_at n true = search (basics, keeps-the_server_process, keeps-on) depth 12
-keeps-look_at n false = search basics depth 12
-
-keeps-look : (n : ℕ) → Timeless (look n)
-unfolding look
-keeps-look n = search (basics, keeps-look_at) depth 12
-
-keeps-the_number : (node : ℕ) → Timeless (the_number node)
-unfolding the_number
-keeps-the_number node = search basics depth 12
-
-keeps-directory_number : (node : ℕ) → Timeless (directory_number node)
-unfolding directory_number
-keeps-directory_number node = search (basics, keeps-the_number) depth 12
-
-keeps-standing_directory : (node : ℕ) → Timeless (standing_directory node)
-unfolding standing_directory
-keeps-standing_directory node = search (basics, keeps-directory_number) depth 12
-
-keeps-told_stamps_if : (keeps : Bool) (n : ℕ) → Timeless (told_stamps_if keeps n)
-keeps-told_stamps_if false n = keeps-give None
-keeps-told_stamps_if true n = search basics depth 12
-
-keeps-told_stamps : (n : ℕ) → Timeless (told_stamps n)
-unfolding told_stamps
-keeps-told_stamps n = search (basics, keeps-told_stamps_if) depth 12
-
-ruleset pieces = (basics, keeps-caller, keeps-caller_with_room, keeps-the_server_process, keeps-between, keeps-look_inside, keeps-on, keeps-look, keeps-the_number, keeps-directory_number, keeps-standing_directory, keeps-told_stamps)
+ruleset pieces = (times-order, times-spares, leaves->>=, leaves-give, leaves-fail, leaves-kept, leaves-keep, leaves-attempt, leaves-if, leaves-when, leaves-needed, leaves-ask, leaves-unless_refused, leaves-or_closed, leaves-caller, leaves-caller_with_room, leaves-the_server_process, leaves-between, leaves-look_inside, leaves-on, leaves-look, leaves-the_number, leaves-directory_number, leaves-standing_directory, leaves-told_stamps)
 
 -- ---- requests
 
@@ -248,23 +84,12 @@ listing-keeps handle names s = choose (directory_of s handle)
     choose None = times-self s
     choose (Some d) = record { times = refl; start = refl }
 
-keeps-or_absent : (known : Result ℕ RequestError) → Timeless (or_absent known)
-keeps-or_absent (Ok n) = keeps-give n
-keeps-or_absent (Err (Refuses r)) = keeps-fail _
-keeps-or_absent (Err (Lacks ESTALE)) = keeps-fail _
-keeps-or_absent (Err (Lacks ENFILE)) = keeps-fail _
-keeps-or_absent (Err (Lacks ERANGE)) = keeps-fail _
-keeps-or_absent (Err (Lacks ENOSYS)) = keeps-fail _
-keeps-or_absent (Err (Lacks ENODATA)) = keeps-fail _
-keeps-or_absent (Err (Lacks EPROTO)) = keeps-fail _
-keeps-or_absent (Err (Lacks EOPNOTSUPP)) = keeps-fail _
-
 keeps-found_or_absent : (nobody : Bool) (d : ℕ) (name : List ℕ) (seen : Result Status RequestError) → Timeless (found_or_absent nobody d name seen)
 keeps-found_or_absent nobody d name (Ok status) = search (pieces, found-keeps) depth 12
 keeps-found_or_absent nobody d name (Err e) = search pieces depth 12
 
 keeps-find_name : (r : Asked) (name : List ℕ) → Timeless (find_name r name)
-keeps-find_name r name = search (pieces, keeps-or_absent, keeps-found_or_absent) depth 20
+keeps-find_name r name = search (pieces, leaves-searched_directory, keeps-found_or_absent) depth 20
 
 keeps-get_attributes : (r : Asked) → Timeless (get_attributes r)
 keeps-get_attributes r = search pieces depth 12
@@ -297,7 +122,7 @@ keeps-open_file r flags is =
 
 keeps-read_pieces : (k pid fd size : ℕ) (bytes : List ℕ) → Timeless (read_pieces k pid fd size bytes)
 unfolding read_piece read_pieces
-keeps-read_pieces zero pid fd size bytes = keeps-give bytes
+keeps-read_pieces zero pid fd size bytes = leaves-give times-order bytes
 keeps-read_pieces (suc k) pid fd size bytes =
     let later = λ (more : List ℕ). keeps-read_pieces k pid fd (size - run_limit) more in
     search (pieces, later) depth 16
@@ -324,7 +149,7 @@ keeps-get_xattr : (r : Asked) (name : List ℕ) (size : ℕ) → Timeless (get_x
 keeps-get_xattr r name size = search (pieces, keeps-an_object, keeps-acl_of) depth 20
 
 keeps-attribute_names : (n : ℕ) (has : Bool) → Timeless (attribute_names n has)
-keeps-attribute_names n false = keeps-give []
+keeps-attribute_names n false = leaves-give times-order []
 keeps-attribute_names n true = search (pieces, keeps-acl_of) depth 12
 
 keeps-list_xattrs : (r : Asked) (size : ℕ) → Timeless (list_xattrs r size)
@@ -334,7 +159,7 @@ opened-keeps : (uid n : ℕ) → KeepsTimes (with_opened uid n)
 opened-keeps uid n s = record { times = refl; start = refl }
 
 keeps-take_directory_if : (uid n : ℕ) (may : Bool) → Timeless (take_directory_if uid n may)
-keeps-take_directory_if uid n false = keeps-fail _
+keeps-take_directory_if uid n false = leaves-fail times-order _
 keeps-take_directory_if uid n true = search (pieces, opened-keeps) depth 12
 
 keeps-open_directory : (r : Asked) → Timeless (open_directory r)
@@ -343,14 +168,14 @@ keeps-open_directory r = search (pieces, keeps-access_as, keeps-take_directory_i
 
 keeps-list_all : (n : ℕ) (placed : Bool) → Timeless (list_all n placed)
 unfolding tell_names list_open
-keeps-list_all n false = keeps-give []
+keeps-list_all n false = leaves-give times-order []
 keeps-list_all n true = search pieces depth 20
 
 keeps-list_now : (node handle number : ℕ) → Timeless (list_now node handle number)
 keeps-list_now node handle number = search (pieces, keeps-list_all, listing-keeps) depth 20
 
 keeps-listed : (node handle : ℕ) (d : OpenDirectory) (anew : Bool) (known : Option (List (List ℕ × ℕ))) → Timeless (listed node handle d anew known)
-keeps-listed node handle d false (Some names) = keeps-give names
+keeps-listed node handle d false (Some names) = leaves-give times-order names
 keeps-listed node handle d false None = keeps-list_now node handle d.ino
 keeps-listed node handle d true known = keeps-list_now node handle d.ino
 
@@ -363,17 +188,17 @@ unfolding read_directory
 keeps-read_directory node extent = search (pieces, keeps-list_kept) depth 12
 
 keeps-place : (place : Result ℕ RequestError) → Timeless (of_result place)
-keeps-place (Ok d) = keeps-give d
-keeps-place (Err e) = keeps-fail e
+keeps-place (Ok d) = leaves-give times-order d
+keeps-place (Err e) = leaves-fail times-order e
 
 keeps-find_listed : (nobody : Bool) (place : Result ℕ RequestError) (name : List ℕ) → Timeless (find_listed nobody place name)
 keeps-find_listed nobody place name = search (pieces, keeps-place, keeps-found_or_absent) depth 20
 
 keeps-look_up_names : (nobody : Bool) (place : Result ℕ RequestError) (names : List (ℕ × (List ℕ × ℕ))) → Timeless (look_up_names nobody place names)
 unfolding look_up_names
-keeps-look_up_names nobody place [] = keeps-give []
+keeps-look_up_names nobody place [] = leaves-give times-order []
 keeps-look_up_names nobody place (e ∷ es) =
-    keeps->>= (keeps-attempt (keeps-find_listed nobody place e.1.0)) (λ found. keeps->>= (keeps-look_up_names nobody place es) (λ others. keeps-give _))
+    leaves->>= times-order (leaves-attempt times-order (keeps-find_listed nobody place e.1.0)) (λ found. leaves->>= times-order (keeps-look_up_names nobody place es) (λ others. leaves-give times-order _))
 
 keeps-read_directory_plus : (nobody : Bool) (node : ℕ) (extent : Extent) → Timeless (read_directory_plus nobody node extent)
 unfolding read_directory_plus
@@ -408,7 +233,7 @@ acls-keep : (offered : Bool) → KeepsTimes (with_acls_offered offered)
 acls-keep offered s = record { times = refl; start = refl }
 
 keeps-or_server_process : (server_process : Option ℕ) → Timeless (or_server_process server_process)
-keeps-or_server_process (Some pid) = keeps-give tt
+keeps-or_server_process (Some pid) = leaves-give times-order tt
 keeps-or_server_process None = search (pieces, server_process-keeps) depth 16
 
 keeps-begin : (offer : Offer) → Timeless (begin offer)
@@ -459,11 +284,11 @@ keeps-plan r value Interrupt none = times-self
 keeps-plan r value Destroy none = keeps-end
 keeps-plan r value (BatchForget batch) none = all_forgotten-keep batch
 keeps-plan r value SyncFs none = keeps-sync_all
-keeps-plan r value Unknown none = keeps-fail _
+keeps-plan r value Unknown none = leaves-fail times-order _
 keeps-plan r value _ none = absurd (said-so none)
 
 keeps-asked_for : (r : Asked) (value : Option (Option AccessList)) (operation : Option Operation) → says_change_in operation ≡ false → KeepsIfAny (asked_for r value operation)
-keeps-asked_for r value None none = keeps-fail _
+keeps-asked_for r value None none = leaves-fail times-order _
 keeps-asked_for r value (Some operation) none =
     subst (λ says. KeepsIfAny (told_first says r.now (plan_of r value operation))) (sym none) (keeps-plan r value operation none)
 

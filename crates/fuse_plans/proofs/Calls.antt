@@ -244,23 +244,25 @@ module _ {rights : Rights} {P : Server → Type 0} where
 
   -- ---- the server's own process
 
-  pub does-with_server_process : {X : Type 0} {f : ℕ → Work X} → ((pid : ℕ) → rights.server_process ≡ Some pid → Does rights P (f pid)) → Does rights P (the_server_process >>= f)
+  -- where it hasn't begun, nothing is asked
+  with_server_process : {X : Type 0} (f : ℕ → Work X) (E : Known → Result X RequestError × Server → Type 0)
+      → ((known : Known) (s : Server) → Fits rights P known s → E known (Err unexpected, s))
+      → ((pid : ℕ) → rights.server_process ≡ Some pid → (known : Known) (s : Server) → Fits rights P known s → KeepsTo (conduct rights) E known (f pid s))
+      → (known : Known) (s : Server) → Fits rights P known s → KeepsTo (conduct rights) E known ((the_server_process >>= f) s)
   unfolding the_server_process kept give fail ◌>>=◌
-  does-with_server_process {X} {f} rest = record { goes = λ known s fits. found known s fits s.server_process refl }
+  with_server_process {X} f E none rest known s fits = found s.server_process refl
     where
-      found : (known : Known) (s : Server) → Fits rights P known s → (o : Option ℕ) → s.server_process ≡ o
-          → KeepsTo (conduct rights) (Left rights P) known (followed_by (needed unexpected o s) (goes_on f))
-      found known s fits None is = fits
-      found known s fits (Some pid) is = (rest pid (sym fits.server_process ∙ is)).goes known s fits
+      found : (o : Option ℕ) → s.server_process ≡ o → KeepsTo (conduct rights) E known (followed_by (needed unexpected o s) (goes_on f))
+      found None is = none known s fits
+      found (Some pid) is = rest pid (sym fits.server_process ∙ is) known s fits
+
+  pub does-with_server_process : {X : Type 0} {f : ℕ → Work X} → ((pid : ℕ) → rights.server_process ≡ Some pid → Does rights P (f pid)) → Does rights P (the_server_process >>= f)
+  does-with_server_process rest =
+      record { goes = with_server_process _ (Left rights P) (λ known s fits. fits) (λ pid is known s fits. (rest pid is).goes known s fits) }
 
   pub lasts-with_server_process : {X : Type 0} {f : ℕ → Work X} → ((pid : ℕ) → rights.server_process ≡ Some pid → Lasts rights P (f pid)) → Lasts rights P (the_server_process >>= f)
-  unfolding the_server_process kept give fail ◌>>=◌
-  lasts-with_server_process {X} {f} rest = record { goes = λ known s fits. found known s fits s.server_process refl }
-    where
-      found : (known : Known) (s : Server) → Fits rights P known s → (o : Option ℕ) → s.server_process ≡ o
-          → KeepsTo (conduct rights) (Left rights Any) known (followed_by (needed unexpected o s) (goes_on f))
-      found known s fits None is = fits-any fits
-      found known s fits (Some pid) is = (rest pid (sym fits.server_process ∙ is)).goes known s fits
+  lasts-with_server_process rest =
+      record { goes = with_server_process _ (Left rights Any) (λ known s fits. fits-any fits) (λ pid is known s fits. (rest pid is).goes known s fits) }
 
   -- the server's own process may look
   pub looks : (pid : ℕ) → rights.server_process ≡ Some pid → (call : Call) → IsTrue (only_looks call) → CanCall rights P pid call

@@ -28,7 +28,7 @@ use Rattle.fuse_plans.specs.declared.reply.Response.{Response}
 use Rattle.fuse_plans.specs.declared.reply.Response.TheVariants.{Silence, Says, Fails}
 use Rattle.fuse_plans.specs.declared.request_error.RequestError.{RequestError}
 use Rattle.fuse_plans.specs.declared.request_error.RequestError.TheVariants.{Refuses, Lacks}
-use Rattle.fuse_plans.specs.declared.request_error.OtherErrno.TheVariants.{ENFILE, ERANGE, ENOSYS, ENODATA, EPROTO, EOPNOTSUPP, ESTALE}
+use Rattle.fuse_plans.specs.declared.request_error.OtherErrno.TheVariants.{ESTALE}
 use Rattle.fuse_plans.specs.RequestErrors.{failed, is_for}
 use Rattle.fuse_plans.specs.Plans.{Plan, Finish, Ask, followed_by, IsRunOf, IsAsked, at_once, later}
 use Rattle.fuse_plans.specs.Works.{Work, give, fail, kept, goes_on, ◌>>=◌, ◌>>◌, attempt, needed, ask, give_unless, refusal_in, unless_refused, unexpected, status_of_reply, replied_status}
@@ -49,10 +49,11 @@ use Rattle.fuse_plans.specs.Nobody.{is_judged, needs_nobody, who_counts_in, is_n
 use Rattle.fuse_plans.proofs.Counting.{found_nobody, names-unread}
 use Rattle.fuse_plans.specs.Serving.{Task, Replying, Silently, begin, count_space, end, plan_of, told_first, asked_for, answered, answered_as, request_plan}
 use Rattle.fuse_plans.specs.Laws.{names_an_object, IsDoneBy}
-use Rattle.fuse_plans.specs.KeepingLaws.{name_valid_in, MayKeepName, is_looked_up, is_new, NamesAreKeptWhereJudged, IsMissing, OnlyMissingNamesAreAbsent}
+use Rattle.fuse_plans.specs.KeepingLaws.{name_valid_in, MayKeepName, is_looked_up, is_new, NamesAreKeptWhereJudged, IsRefusedForAbsence, IsMissing, OnlyMissingNamesAreAbsent}
 use Rattle.fuse_plans.proofs.PlanLaws.{run-followed_by, run-parts}
 use Rattle.fuse_plans.proofs.AllEnds.{AllEnd, all-weaker, all-followed_by, all-run}
 use Rattle.fuse_plans.proofs.OpenedObjects.{EndsWell, finished, ok_is, fails_not_well, run-told, was_told, before}
+use Rattle.fuse_plans.proofs.Leaving.{by-or_absent}
 
 -- ---- what is told
 abbrev is_absent : ReplyBody → Bool
@@ -333,15 +334,7 @@ once-directory_for node name s =
 
 once-or_absent : (known : Result ℕ RequestError) (s : Server) → OnceAt (Anyhow {X = ℕ}) s (or_absent known s)
 unfolding give fail
-once-or_absent (Ok n) s = (tt, refl)
-once-or_absent (Err (Lacks ESTALE)) s = refl
-once-or_absent (Err (Lacks ENFILE)) s = refl
-once-or_absent (Err (Lacks ERANGE)) s = refl
-once-or_absent (Err (Lacks ENOSYS)) s = refl
-once-or_absent (Err (Lacks ENODATA)) s = refl
-once-or_absent (Err (Lacks EPROTO)) s = refl
-once-or_absent (Err (Lacks EOPNOTSUPP)) s = refl
-once-or_absent (Err (Refuses r)) s = refl
+once-or_absent known s = by-or_absent (λ w. OnceAt (Anyhow {X = ℕ}) s (w s)) (λ n. (tt, refl)) (λ e. refl) known
 
 once-searched_directory : (node : ℕ) (name : List ℕ) (s : Server) → OnceAt (Anyhow {X = ℕ}) s (searched_directory node name s)
 unfolding attempt ◌>>=◌
@@ -519,14 +512,10 @@ seen_absent d valid name t (Ask e next) (g ∷ es) (reply ∷ replies) runs =
     let rest = seen_absent d valid name t (next reply) es replies runs.1 in
     record { stopped = rest.stopped; afterwards = rest.afterwards; for_absence = rest.for_absence; runs = (runs.0, rest.runs) }
 
--- why a process finds nothing
-record RefusedFor (pid : ℕ) (es : List Event) (replies : List Reply) : Type 0 where
-  event : Event
-  is_by : IsDoneBy pid event
-  refusal : Refusal
-  after : List Event
-  asked : IsAsked event (Refused refusal) after es replies
-  for_absence : is_for ENOENT (Refuses refusal) ≡ true
+-- it was refused so in another run too
+refused_as : {pid : ℕ} {es fs : List Event} {replies rest : List Reply} (is : IsRefusedForAbsence pid es replies)
+    → IsAsked is.event (Refused is.refusal) is.after fs rest → IsRefusedForAbsence pid fs rest
+refused_as is asked = record { event = is.event; is_by = is.is_by; refusal = is.refusal; after = is.after; asked = asked; for_absence = is.for_absence }
 
 refused_reply : (reply : Reply) (r : Refusal) → refusal_in reply ≡ Some r → reply ≡ Refused r
 refused_reply (Refused q) r is = ap (λ (o : Option Refusal). Refused (unwrap_or o q)) is
@@ -537,7 +526,7 @@ error_in (Ok x) = unexpected
 error_in (Err e) = e
 
 refused_at_once : (pid : ℕ) (e : Event) (g : Event) (es : List Event) (reply : Reply) (replies : List Reply) (r : Refusal) (stopped : RequestError) → IsDoneBy pid e → g ≡ e
-    → refusal_in reply ≡ Some r → stopped ≡ Refuses r → is_for ENOENT stopped ≡ true → RefusedFor pid (g ∷ es) (reply ∷ replies)
+    → refusal_in reply ≡ Some r → stopped ≡ Refuses r → is_for ENOENT stopped ≡ true → IsRefusedForAbsence pid (g ∷ es) (reply ∷ replies)
 refused_at_once pid e g es reply replies r stopped by same is stops for = record {
   event = e;
   is_by = by;
@@ -566,7 +555,7 @@ abbrev look_and_back : ℕ → List ℕ → Work Reply
 look_and_back pid name = ask (Calls pid (Lstat name)) >>= (λ reply. ask (Enter pid root root) >>= (λ _. unless_refused reply))
 
 looked_refused : (pid : ℕ) (name : List ℕ) (s t : Server) (es : List Event) (replies : List Reply) (e : RequestError) → is_for ENOENT e ≡ true
-    → IsRunOf (followed_by (look_and_back pid name s) (goes_on replied_status)) es replies (Err e, t) → RefusedFor pid es replies
+    → IsRunOf (followed_by (look_and_back pid name s) (goes_on replied_status)) es replies (Err e, t) → IsRefusedForAbsence pid es replies
 unfolding ask give fail ◌>>=◌
 looked_refused pid name s t [] replies e for runs = elim runs [ ]
 looked_refused pid name s t (g ∷ es) [] e for runs = elim runs [ ]
@@ -575,14 +564,14 @@ looked_refused pid name s t (g ∷ h ∷ es) (reply ∷ []) e for runs = elim ru
 looked_refused pid name s t (g ∷ h ∷ es) (reply ∷ back ∷ replies) e for runs = choose (refusal_in reply) refl runs.1.1
   where
     choose : (o : Option Refusal) → refusal_in reply ≡ o → IsRunOf (followed_by (give_unless reply o s) (goes_on replied_status)) es replies (Err e, t)
-        → RefusedFor pid (g ∷ h ∷ es) (reply ∷ back ∷ replies)
+        → IsRefusedForAbsence pid (g ∷ h ∷ es) (reply ∷ back ∷ replies)
     choose None is ran = absurd (shown_absent reply s t es replies e for ran)
     choose (Some r) is ran =
         let ends = finished (Err (Refuses r), s) (Err e, t) es replies ran in
         refused_at_once pid (Calls pid (Lstat name)) g (h ∷ es) reply (back ∷ replies) r e refl runs.0 is (ap (λ q. error_in q.0) ends.2) for
 
 look_refused : (pid d : ℕ) (name : List ℕ) (s t : Server) (es : List Event) (replies : List Reply) (e : RequestError) → is_for ENOENT e ≡ true
-    → IsRunOf (look_inside pid d name s) es replies (Err e, t) → RefusedFor pid es replies
+    → IsRunOf (look_inside pid d name s) es replies (Err e, t) → IsRefusedForAbsence pid es replies
 unfolding look_inside between ask give fail ◌>>=◌
 look_refused pid d name s t [] replies e for runs = elim runs [ ]
 look_refused pid d name s t (g ∷ es) [] e for runs = elim runs [ ]
@@ -590,17 +579,10 @@ look_refused pid d name s t (g ∷ es) (first ∷ replies) e for runs = choose (
   where
     choose : (o : Option Refusal) → refusal_in first ≡ o
         → IsRunOf (followed_by (followed_by (give_unless first o s) (goes_on (λ _. look_and_back pid name))) (goes_on replied_status)) es replies (Err e, t)
-        → RefusedFor pid (g ∷ es) (first ∷ replies)
+        → IsRefusedForAbsence pid (g ∷ es) (first ∷ replies)
     choose None is ran =
         let later_on = looked_refused pid name s t es replies e for ran in
-        record {
-          event = later_on.event;
-          is_by = later_on.is_by;
-          refusal = later_on.refusal;
-          after = later_on.after;
-          asked = later g first es replies later_on.asked;
-          for_absence = later_on.for_absence;
-        }
+        refused_as later_on (later g first es replies later_on.asked)
     choose (Some r) is ran =
         let ends = finished (Err (Refuses r), s) (Err e, t) es replies ran in
         refused_at_once pid (Enter pid d d) g es first replies r e refl runs.0 is (ap (λ q. error_in q.0) ends.2) for
@@ -617,16 +599,7 @@ find_missing r name s t valid es replies nobody runs =
     let by = once-given (λ pid. s.server_process ≡ Some pid) (the_server_process s) (λ pid. find_inside true pid found.value name) s t es replies (Absent valid) (once-the_server_process s) found.runs in
     let seen = seen_absent found.value valid name t (look_inside by.value found.value name s) es replies by.runs in
     let refused = look_refused by.value found.value name s seen.afterwards es replies seen.stopped seen.for_absence seen.runs in
-    record {
-      pid = by.value;
-      own = by.holds;
-      event = refused.event;
-      is_by = refused.is_by;
-      refusal = refused.refusal;
-      after = refused.after;
-      asked = refused.asked;
-      for_absence = refused.for_absence;
-    }
+    record { pid = by.value; own = by.holds; refused = refused }
 
 -- ---- each request
 
@@ -750,16 +723,8 @@ there-named r value _ is other = absurd (cc)
 
 missing_later : (server_process : Option ℕ) (p : Plan WhoCounts) (first after : List Event) (replied rest : List Reply) (who : WhoCounts) → IsRunOf p first replied who
     → IsMissing server_process after rest → IsMissing server_process (first ++ after) (replied ++ rest)
-missing_later server_process p first after replied rest who ran m = record {
-  pid = m.pid;
-  own = m.own;
-  event = m.event;
-  is_by = m.is_by;
-  refusal = m.refusal;
-  after = m.after;
-  asked = before p first replied who ran m.asked;
-  for_absence = m.for_absence;
-}
+missing_later server_process p first after replied rest who ran m =
+    record { pid = m.pid; own = m.own; refused = refused_as m.refused (before p first replied who ran m.refused.asked) }
 
 module _ (r : Request) (s t : Server) (valid : ℕ) where
   never : IsThere (Absent valid) → ⊥

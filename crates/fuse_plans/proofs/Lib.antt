@@ -18,6 +18,7 @@ pub mod MaskConducts
 pub mod ListingConducts
 pub mod ListingLaws
 pub mod KeptNames
+pub mod Leaving
 pub mod NameConducts
 pub mod NobodyConducts
 pub mod OpenedObjects

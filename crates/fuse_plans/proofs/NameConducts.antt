@@ -11,8 +11,6 @@ use Rattle.fs_model.specs.declared.reply.Stamps.{Stamps}
 use Rattle.fs_model.specs.declared.reply.Status.{Status}
 use Rattle.fuse_plans.specs.Plans.{KeepsTo}
 use Rattle.fuse_plans.specs.declared.request_error.RequestError.{RequestError}
-use Rattle.fuse_plans.specs.declared.request_error.RequestError.TheVariants.{Refuses, Lacks}
-use Rattle.fuse_plans.specs.declared.request_error.OtherErrno.TheVariants.{ENFILE, ERANGE, ENOSYS, ENODATA, EPROTO, EOPNOTSUPP, ESTALE}
 use Rattle.fuse_plans.specs.RequestErrors.{failed}
 use Rattle.fuse_plans.specs.declared.request.Asked.{Asked}
 use Rattle.fuse_plans.specs.declared.reply.ReplyBody.{ReplyBody}
@@ -33,6 +31,7 @@ use Rattle.fuse_plans.proofs.MaskConducts.{does-new_valid_of}
 use Rattle.fuse_plans.proofs.Chosen.{OfCaller, about-caller, gives-with, does-caller, does-caller_with_room}
 use Rattle.fuse_state.proofs.Holders.{holding_of}
 use Rattle.fuse_plans.proofs.Forms.{caller-can, does-if, does-replied_fd, ends-keep}
+use Rattle.fuse_plans.proofs.Leaving.{by-absent}
 
 -- ---- what the server keeps
 
@@ -141,14 +140,7 @@ module _ {rights : Rights} (r : Asked) (node : rights.subject.node ≡ r.node) w
   stays-absent : (F : ℕ → Type 0) (e : RequestError) (known : Known) (s : Server) → Fits rights Any known s
       → KeepsTo (conduct rights) (LeftTo rights (λ n. Still rights) F) known (or_absent (Err e) s)
   unfolding fail
-  stays-absent F (Lacks ESTALE) known s fits = fits
-  stays-absent F (Lacks ENFILE) known s fits = fits
-  stays-absent F (Lacks ERANGE) known s fits = fits
-  stays-absent F (Lacks ENOSYS) known s fits = fits
-  stays-absent F (Lacks ENODATA) known s fits = fits
-  stays-absent F (Lacks EPROTO) known s fits = fits
-  stays-absent F (Lacks EOPNOTSUPP) known s fits = fits
-  stays-absent F (Refuses r) known s fits = fits
+  stays-absent F e known s fits = by-absent (λ w. KeepsTo (conduct rights) (LeftTo rights (λ n. Still rights) F) known (w s)) (λ other. fits) e
 
   gives-searched_directory : (name : List ℕ) → given_name rights.subject.operation ≡ Some name → Gives rights (IsNameIn rights.subject name) (searched_directory r.node name)
   gives-searched_directory name given =

@@ -40,7 +40,7 @@ use Rattle.fuse_plans.specs.Callers.{the_number, caller_with_room}
 use Rattle.fuse_plans.specs.FilePlans.{when, done, touched_if, show_open, confirm_shown, confirm_open, ask_first, open_object, file_flags, opened_body, open_granted, open_file}
 use Rattle.fuse_plans.specs.Flags.{mode_in, is_trunc}
 use Rattle.fuse_plans.specs.Times.{tell_time_if, tell_time}
-use Rattle.fuse_plans.specs.Laws.{OpenedIsTheObject}
+use Rattle.fuse_plans.specs.Laws.{HoldsObject, OpenedIsTheObject}
 use Rattle.fuse_plans.specs.Requests.{asked_of}
 use Rattle.fuse_plans.specs.Nobody.{who_counts_in, is_nobody}
 use Rattle.fuse_plans.specs.Serving.{Replying, told_first, answered, asked_for, response_of, request_plan}
@@ -239,16 +239,7 @@ held_then s handle n =
 
 -- ---- an OPEN
 
--- of the handle of an object with this number
-record Held (n handle : ℕ) (t : Server) (es : List Event) (replies : List Reply) : Type 0 where
-  status : Status
-  is_object : status.ino ≡ n
-  after : List Event
-  shown : IsAsked (Calls (owner_of handle) (Fstat (descriptor_of handle))) (Shown status) after es replies
-  emptied : All (λ e. e ≡ cut (owner_of handle) (descriptor_of handle)) after
-  held : object_of t handle ≡ Some n
-
-held_grows : (n handle : ℕ) (t : Server) → Grows (Held n handle t)
+held_grows : (n handle : ℕ) (t : Server) → Grows (HoldsObject n handle t)
 held_grows n handle t X p es fs replies rest x runs h = record {
   status = h.status;
   is_object = h.is_object;
@@ -271,9 +262,9 @@ keeps_handle now cut n h y u t es replies runs =
 -- what was confirmed is held, where no more is asked
 is_held : (pid n h handle : ℕ) (v u t : Server) (first after : List Event) (replied rest : List Reply) → owner_of h ≡ pid
     → Confirmed pid (descriptor_of h) n v u first replied → after ≡ [] → rest ≡ [] → handle ≡ h → object_of t h ≡ Some n
-    → Held n handle t (first ++ after) (replied ++ rest)
+    → HoldsObject n handle t (first ++ after) (replied ++ rest)
 is_held pid n h handle v u t first after replied rest is c none silent same keeps =
-    subst (λ k. Held n k t (first ++ after) (replied ++ rest)) (sym same)
+    subst (λ k. HoldsObject n k t (first ++ after) (replied ++ rest)) (sym same)
     (record {
       status = c.status;
       is_object = c.same;
@@ -288,12 +279,12 @@ is_held pid n h handle v u t first after replied rest is c none silent same keep
 -- what is open is confirmed, and then has the handle
 ends_held : (now : Time) (pid n : ℕ) (cuts touches : Bool) (h handle : ℕ) → owner_of h ≡ pid → (v t : Server) (es : List Event) (replies : List Reply)
     → EndsWell ((confirm_open pid (descriptor_of h) n cuts >>= (λ _. keep (touched_if touches now n) >>= (λ _. keep (with_handle h n) >>= (λ _. give h)))) v) es replies handle t
-    → Held n handle t es replies
+    → HoldsObject n handle t es replies
 unfolding ◌>>=◌
 ends_held now pid n cuts touches h handle is v t es replies runs =
     let parts = run-parts (confirm_open pid (descriptor_of h) n cuts v) (goes_on rest_of) es replies (Ok handle, t) runs in
-    subst (λ l. Held n handle t l replies) (sym parts.all_events)
-    (subst (λ l. Held n handle t (parts.first_events ++ parts.later_events) l) (sym parts.all_replies)
+    subst (λ l. HoldsObject n handle t l replies) (sym parts.all_events)
+    (subst (λ l. HoldsObject n handle t (parts.first_events ++ parts.later_events) l) (sym parts.all_replies)
     (ended parts.middle parts.first_events parts.later_events parts.first_replies parts.later_replies parts.first parts.later))
   where
     rest_of : Unit {0} → Work ℕ
@@ -301,17 +292,17 @@ ends_held now pid n cuts touches h handle is v t es replies runs =
 
     ended : (m : Result (Unit {0}) RequestError × Server) (first after : List Event) (replied rest : List Reply)
         → IsRunOf (confirm_open pid (descriptor_of h) n cuts v) first replied m → EndsWell (goes_on rest_of m) after rest handle t
-        → Held n handle t (first ++ after) (replied ++ rest)
+        → HoldsObject n handle t (first ++ after) (replied ++ rest)
     ended (Ok x, u) first after replied rest ran goes =
         let ends = keeps_handle now touches n h handle u t after rest goes in
         is_held pid n h handle v u t first after replied rest is (confirms pid (descriptor_of h) n cuts x v u first replied ran) ends.0 ends.1 ends.2 ends.3
     ended (Err e, u) first after replied rest ran goes = absurd (fails_not_well e handle u t after rest goes)
 
 opens_held : (now : Time) (pid n flags : ℕ) (mode : Mode) (s t : Server) (es : List Event) (replies : List Reply) (handle : ℕ)
-    → EndsWell (open_object now pid n flags mode s) es replies handle t → Held n handle t es replies
+    → EndsWell (open_object now pid n flags mode s) es replies handle t → HoldsObject n handle t es replies
 opens_held now pid n flags mode s t es replies handle runs =
-    run->>= (Held n handle t) (held_grows n handle t) _ _ s t es replies handle runs (λ reply u first replied after rest ran goes.
-    run->>= (Held n handle t) (held_grows n handle t) (replied_handle pid reply) _ u t after rest handle goes (λ h v more again last rests found ends.
+    run->>= (HoldsObject n handle t) (held_grows n handle t) _ _ s t es replies handle runs (λ reply u first replied after rest ran goes.
+    run->>= (HoldsObject n handle t) (held_grows n handle t) (replied_handle pid reply) _ u t after rest handle goes (λ h v more again last rests found ends.
     ends_held now pid n (is_trunc flags) (is_trunc flags) h handle (owner_is pid _ h (needed_is _ _ h u v more again found)) v t last rests ends))
 
 -- what is told of a value that was given
@@ -344,14 +335,14 @@ opened_is handle h told flags is = ap (λ b. handle_told b) is
 
 -- once it is granted
 granted_held : (now : Time) (pid n flags : ℕ) (mode : Mode) (s t : Server) (es : List Event) (replies : List Reply) (handle : ℕ) (keeping : OpenedFlags)
-    → EndsWell (open_granted now pid n flags mode s) es replies (Opened handle keeping) t → Held n handle t es replies
+    → EndsWell (open_granted now pid n flags mode s) es replies (Opened handle keeping) t → HoldsObject n handle t es replies
 unfolding ◌>>=◌
 granted_held now pid n flags mode s t es replies handle keeping runs =
-    run->>= (Held n handle t) (held_grows n handle t) (ask_first pid n flags) _ s t es replies (Opened handle keeping) runs (λ x u first replied after rest ran goes.
+    run->>= (HoldsObject n handle t) (held_grows n handle t) (ask_first pid n flags) _ s t es replies (Opened handle keeping) runs (λ x u first replied after rest ran goes.
     opens u after rest goes)
   where
     opens : (u : Server) (after : List Event) (rest : List Reply)
-        → EndsWell ((open_object now pid n flags mode >>= (λ h. kept (opened_body h))) u) after rest (Opened handle keeping) t → Held n handle t after rest
+        → EndsWell ((open_object now pid n flags mode >>= (λ h. kept (opened_body h))) u) after rest (Opened handle keeping) t → HoldsObject n handle t after rest
     opens u after rest goes =
         let told = tells (open_object now pid n flags mode u) opened_body (Opened handle keeping) t after rest goes in
         let same = opened_is handle told.value keeping (file_flags told.kept_then.settings) told.is in
@@ -361,7 +352,7 @@ granted_held now pid n flags mode s t es replies handle keeping runs =
 record OfNode (r : Asked) (s t : Server) (es : List Event) (replies : List Reply) (handle : ℕ) : Type 0 where
   number : ℕ
   of_node : number_of_node s r.node ≡ Some number
-  held : Held number handle t es replies
+  held : HoldsObject number handle t es replies
 
 file_held : (r : Asked) (flags : ℕ) (s t : Server) (es : List Event) (replies : List Reply) (handle : ℕ) (keeping : OpenedFlags)
     → EndsWell (open_file r flags s) es replies (Opened handle keeping) t → OfNode r s t es replies handle
@@ -378,8 +369,8 @@ file_held r flags s t es replies handle keeping runs = choose (number_of_node s 
       number = n;
       of_node = is;
       held =
-          run->>= (Held n handle t) (held_grows n handle t) (needed (failed EINVAL) (mode_in flags)) _ s t es replies (Opened handle keeping) ran (λ mode u first replied after rest fine goes.
-          run->>= (Held n handle t) (held_grows n handle t) (caller_with_room r.cred) _ u t after rest (Opened handle keeping) goes (λ pid v more again last rests found ends.
+          run->>= (HoldsObject n handle t) (held_grows n handle t) (needed (failed EINVAL) (mode_in flags)) _ s t es replies (Opened handle keeping) ran (λ mode u first replied after rest fine goes.
+          run->>= (HoldsObject n handle t) (held_grows n handle t) (caller_with_room r.cred) _ u t after rest (Opened handle keeping) goes (λ pid v more again last rests found ends.
           granted_held r.now pid n flags mode v t last rests handle keeping ends));
     }
 
@@ -441,13 +432,4 @@ opened_is_the_object r s t flags es replies handle keeping is runs =
     let grown = node_grows asked s t handle _ (who_counts_in r.node r.uid (Some (Open flags)) s) parts.first_events parts.later_events parts.first_replies parts.later_replies _ parts.first later in
     let found = subst (λ l. OfNode asked s t l replies handle) (sym parts.all_events)
     (subst (λ l. OfNode asked s t (parts.first_events ++ parts.later_events) l handle) (sym parts.all_replies) grown) in
-    record {
-      number = found.number;
-      of_node = found.of_node;
-      status = found.held.status;
-      is_object = found.held.is_object;
-      after = found.held.after;
-      shown = found.held.shown;
-      emptied = found.held.emptied;
-      held = found.held.held;
-    }
+    record { number = found.number; of_node = found.of_node; held = found.held }

@@ -2,7 +2,7 @@
 --     opener-can, about-opener, does-keep_opener        it is one of who asks
 --     does-with_handle, lasts-with_handle        what it opens has a handle of its own
 --     does-keep_handle, does-keep_opened        that is kept
-use Rattle.std.specs.Prelude.{◌≡◌, ℕ, true, false, IsTrue, Option, None, Some}
+use Rattle.std.specs.Prelude.{◌≡◌, ℕ, true, false, IsTrue, Option, None, Some, Result, Err}
 use Rattle.std.proofs.Common.{refl, sym, ap, subst, ◌∙◌}
 use Rattle.std.specs.Ordering.{nat_cmp}
 use Rattle.fs_layout.specs.Maps.{get}
@@ -11,9 +11,11 @@ use Rattle.fs_model.specs.declared.reply.Reply.{Reply}
 use Rattle.fuse_state.specs.Servers.{Server, owner_of, holds_some, may_take_process, with_handle}
 use Rattle.fuse_state.proofs.Holders.{holding_of, with_holding, holds_then, handle_within}
 use Rattle.fuse_plans.specs.Acts.{IsObject}
-use Rattle.fuse_plans.specs.Conduct.{Rights, as_caller, IsCaller, stays}
+use Rattle.fuse_plans.specs.declared.request_error.RequestError.{RequestError}
+use Rattle.fuse_plans.specs.Plans.{KeepsTo}
+use Rattle.fuse_plans.specs.Conduct.{Known, Rights, Fits, conduct, as_caller, IsCaller, stays}
 use Rattle.fuse_plans.specs.Works.{Work, give, fail, keep, ◌>>=◌, needed, unexpected, fd_of_reply, handle_within as handle_in_reply, replied_handle}
-use Rattle.fuse_plans.proofs.Conducts.{SameAll, still-as, still-kept, Does, Lasts, does-keep, does-keep_within, fits-any}
+use Rattle.fuse_plans.proofs.Conducts.{Any, Left, SameAll, still-as, still-kept, Does, Lasts, does-keep, does-keep_within, fits-any}
 use Rattle.fuse_plans.proofs.Calls.{CanCall, About, about-still}
 use Rattle.fuse_plans.proofs.Chosen.{MayOpen, OfOpener}
 use Rattle.fuse_plans.proofs.OpenedObjects.{owner_is}
@@ -69,21 +71,24 @@ module _ {rights : Rights} where
       does-keep_within _ (λ s. (refl, refl)) (λ s may within start. handle_within s handle n pid may.cred owner may.there (may.room start) (within start))
       (may_open-then pid handle n owner)
 
-  -- what is opened has a handle of the process
+  -- what is opened has a handle of the process; where it has none, nothing more is asked
+  given_handle : {X : Type 0} {P : Server → Type 0} (pid : ℕ) (reply : Reply) (f : ℕ → Work X) (E : Known → Result X RequestError × Server → Type 0)
+      → ((known : Known) (s : Server) → Fits rights P known s → E known (Err unexpected, s))
+      → ((handle : ℕ) → owner_of handle ≡ pid → (known : Known) (s : Server) → Fits rights P known s → KeepsTo (conduct rights) E known (f handle s))
+      → (known : Known) (s : Server) → Fits rights P known s → KeepsTo (conduct rights) E known ((replied_handle pid reply >>= f) s)
+  unfolding give fail ◌>>=◌
+  given_handle pid reply f E none rest known s fits = found (handle_in_reply pid (fd_of_reply reply)) refl
+    where
+      found : (o : Option ℕ) → handle_in_reply pid (fd_of_reply reply) ≡ o → KeepsTo (conduct rights) E known ((needed unexpected o >>= f) s)
+      found None is = none known s fits
+      found (Some handle) is = rest handle (owner_is pid (fd_of_reply reply) handle is) known s fits
+
   pub does-with_handle : {X : Type 0} {P : Server → Type 0} (pid : ℕ) (reply : Reply) {f : ℕ → Work X}
       → ((handle : ℕ) → owner_of handle ≡ pid → Does rights P (f handle)) → Does rights P (replied_handle pid reply >>= f)
-  unfolding give fail ◌>>=◌
-  does-with_handle {X} {P} pid reply {f} rest = go (handle_in_reply pid (fd_of_reply reply)) refl
-    where
-      go : (o : Option ℕ) → handle_in_reply pid (fd_of_reply reply) ≡ o → Does rights P (needed unexpected o >>= f)
-      go None is = record { goes = λ known s fits. fits }
-      go (Some handle) is = record { goes = λ known s fits. (rest handle (owner_is pid (fd_of_reply reply) handle is)).goes known s fits }
+  does-with_handle {X} {P} pid reply {f} rest =
+      record { goes = given_handle pid reply f (Left rights P) (λ known s fits. fits) (λ handle is known s fits. (rest handle is).goes known s fits) }
 
   pub lasts-with_handle : {X : Type 0} {P : Server → Type 0} (pid : ℕ) (reply : Reply) {f : ℕ → Work X}
       → ((handle : ℕ) → owner_of handle ≡ pid → Lasts rights P (f handle)) → Lasts rights P (replied_handle pid reply >>= f)
-  unfolding give fail ◌>>=◌
-  lasts-with_handle {X} {P} pid reply {f} rest = go (handle_in_reply pid (fd_of_reply reply)) refl
-    where
-      go : (o : Option ℕ) → handle_in_reply pid (fd_of_reply reply) ≡ o → Lasts rights P (needed unexpected o >>= f)
-      go None is = record { goes = λ known s fits. fits-any fits }
-      go (Some handle) is = record { goes = λ known s fits. (rest handle (owner_is pid (fd_of_reply reply) handle is)).goes known s fits }
+  lasts-with_handle pid reply {f} rest =
+      record { goes = given_handle pid reply f (Left rights Any) (λ known s fits. fits-any fits) (λ handle is known s fits. (rest handle is).goes known s fits) }

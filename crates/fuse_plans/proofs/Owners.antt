@@ -16,7 +16,6 @@ use Rattle.fs_model.specs.declared.reply.Reply.{Reply}
 use Rattle.fs_model.specs.declared.reply.Reply.TheVariants.{Shown}
 use Rattle.fs_model.specs.declared.reply.Status.{Status}
 use Rattle.fuse_protocol.specs.declared.operation.Operation.{Operation}
-use Rattle.fuse_state.specs.declared.dentry.Dentry.{Dentry}
 use Rattle.fuse_state.specs.Servers.{Server, dentry_of}
 use Rattle.fuse_plans.specs.declared.request_error.RequestError.{RequestError}
 use Rattle.fuse_plans.specs.declared.request_error.RequestError.TheVariants.{Lacks}
@@ -108,10 +107,10 @@ module _ (server_process : Option ℕ) (uid bit : ℕ) where
       (λ pid path is. tells-noted _ _ _ pid (Lstat path) (ap (λ o. stats o (Calls pid (Lstat path))) is ∙ same_number pid)) (λ m e. tt))
       saw-reply (λ m e told. tt)
 
-  -- before the directory is looked at nothing is told
+  -- before the object is looked at nothing is told
   first-pieces : (node : ℕ) (s : Server) → s.server_process ≡ server_process
-      → ((n : ℕ) (p : Dentry) (pid : ℕ) (m : Bool) (t : Server) → server_process ≡ Some pid → t.server_process ≡ server_process
-      → Keeps Told m ((look_inside pid p.dir_ino (codes ".") >>= (λ above. owns_object n uid (grants_owner uid owner_searches above))) t))
+      → ((n : ℕ) (above : Status) (m : Bool) (t : Server) → Saw m (Ok above) → t.server_process ≡ server_process
+      → Keeps Told m (owns_object n uid (grants_owner uid owner_searches above) t))
       → Keeps Told false (is_owner node uid s)
   unfolding is_owner
   first-pieces node s own rest =
@@ -122,7 +121,10 @@ module _ (server_process : Option ℕ) (uid bit : ℕ) where
       last->>= (stats server_process) (shows_owned uid bit) server_process Told (needed (Lacks ESTALE) found) _ k u again (watched-needed (Lacks ESTALE) found)
       (λ p j v some still.
       last->>= (stats server_process) (shows_owned uid bit) server_process Told the_server_process _ j v still watched-server_process
-      (λ pid i w is its. rest n p pid i w is its) (λ i e any. tt)) (λ j e any. tt)) (λ k e any. tt)) (λ m e any. tt)
+      (λ pid i w is its.
+      last->>= (stats server_process) (shows_owned uid bit) server_process Told (look_inside pid p.dir_ino (codes ".")) _ i w its
+      (saw-inside pid p.dir_ino (codes ".") is) (rest n)
+      (λ i e any. tt)) (λ i e any. tt)) (λ j e any. tt)) (λ k e any. tt)) (λ m e any. tt)
 
 -- ---- the directory
 
@@ -144,10 +146,7 @@ module _ (server_process : Option ℕ) (uid : ℕ) where
   directory-told : (node : ℕ) (s : Server) → s.server_process ≡ server_process
       → Keeps server_process uid owner_searches (Told server_process uid owner_searches) false (is_owner node uid s)
   directory-told node s own =
-      first-pieces server_process uid owner_searches node s own (λ n p pid m t is same.
-      last->>= (stats server_process) (shows_owned uid owner_searches) server_process (Told server_process uid owner_searches) (look_inside pid p.dir_ino (codes ".")) _ m t same
-      (saw-inside server_process uid owner_searches pid p.dir_ino (codes ".") is)
-      (λ above k u saw again. later-object n (grants_owner uid owner_searches above) k u saw) (λ k e any. tt))
+      first-pieces server_process uid owner_searches node s own (λ n above m t saw same. later-object n (grants_owner uid owner_searches above) m t saw)
 
   -- ---- the object
 
@@ -162,10 +161,7 @@ module _ (server_process : Option ℕ) (uid : ℕ) where
   object-told : (node : ℕ) (s : Server) → s.server_process ≡ server_process
       → Keeps server_process uid owner_reads (Told server_process uid owner_reads) false (is_owner node uid s)
   object-told node s own =
-      first-pieces server_process uid owner_reads node s own (λ n p pid m t is same.
-      last->>= (stats server_process) (shows_owned uid owner_reads) server_process (Told server_process uid owner_reads) (look_inside pid p.dir_ino (codes ".")) _ m t same
-      (saw-inside server_process uid owner_reads pid p.dir_ino (codes ".") is)
-      (λ above k u any again. object-then n (grants_owner uid owner_searches above) k u again) (λ k e any. tt))
+      first-pieces server_process uid owner_reads node s own (λ n above m t saw same. object-then n (grants_owner uid owner_searches above) m t same)
 
 -- ---- what was asked
 
@@ -183,15 +179,8 @@ was-shown : (uid bit : ℕ) (server_process : Option ℕ) (es : List Event) (rep
 was-shown uid bit server_process es replies seen =
     let stat = is-stat server_process seen.event seen.of_event in
     let shown = is-shown-so uid bit seen.reply seen.of_reply in
-    record {
-      pid = stat.pid;
-      own = stat.own;
-      path = stat.path;
-      status = shown.status;
-      after = seen.after;
-      shown = subst (λ e. IsAsked e (Shown shown.status) seen.after es replies) stat.is (subst (λ q. IsAsked seen.event q seen.after es replies) shown.is seen.asked);
-      grants = shown.grants;
-    }
+    let asked = subst (λ e. IsAsked e (Shown shown.status) seen.after es replies) stat.is (subst (λ q. IsAsked seen.event q seen.after es replies) shown.is seen.asked) in
+    record { pid = stat.pid; own = stat.own; path = stat.path; status = shown.status; after = seen.after; shown = asked; grants = shown.grants }
 
 -- what was told of a run was seen in it
 seen-in : (uid bit : ℕ) (node : ℕ) (s : Server) (es : List Event) (replies : List Reply) (t : Server) → IsRunOf (is_owner node uid s) es replies (Ok true, t)
@@ -200,29 +189,18 @@ seen-in uid bit node s es replies t runs keeps =
     let told = keeps-follows (watching (stats s.server_process) (shows_owned uid bit)) (λ k r. Told s.server_process uid bit k r.0) (is_owner node uid s) es replies (Ok true, t) false keeps runs in
     was-shown uid bit s.server_process es replies (was_seen (stats s.server_process) (shows_owned uid bit) es replies (told.1 refl))
 
+-- it was shown so in another run too
+shown_as : {uid bit : ℕ} {server_process : Option ℕ} {es fs : List Event} {replies rest : List Reply} (is : IsShownAsOwned uid bit server_process es replies)
+    (after : List Event) → IsAsked (Calls is.pid (Lstat is.path)) (Shown is.status) after fs rest → IsShownAsOwned uid bit server_process fs rest
+shown_as is after asked = record { pid = is.pid; own = is.own; path = is.path; status = is.status; after = after; shown = asked; grants = is.grants }
+
 shown_more : {uid bit : ℕ} {server_process : Option ℕ} {es : List Event} {replies : List Reply} (fs : List Event) (rest : List Reply)
     → IsShownAsOwned uid bit server_process es replies → IsShownAsOwned uid bit server_process (es ++ fs) (replies ++ rest)
-shown_more fs rest is = record {
-  pid = is.pid;
-  own = is.own;
-  path = is.path;
-  status = is.status;
-  after = is.after ++ fs;
-  shown = asked_more fs rest is.shown;
-  grants = is.grants;
-}
+shown_more fs rest is = shown_as is (is.after ++ fs) (asked_more fs rest is.shown)
 
 shown_later : {uid bit : ℕ} {server_process : Option ℕ} {fs : List Event} {rest : List Reply} {X : Type 0} (p : Plan X) (es : List Event) (replies : List Reply) (x : X)
     → IsRunOf p es replies x → IsShownAsOwned uid bit server_process fs rest → IsShownAsOwned uid bit server_process (es ++ fs) (replies ++ rest)
-shown_later p es replies x runs is = record {
-  pid = is.pid;
-  own = is.own;
-  path = is.path;
-  status = is.status;
-  after = is.after;
-  shown = before p es replies x runs is.shown;
-  grants = is.grants;
-}
+shown_later p es replies x runs is = shown_as is is.after (before p es replies x runs is.shown)
 
 is-user : (r : Result Bool RequestError) → User ≡ or_process r → r ≡ Ok true
 is-user (Ok true) is = refl

@@ -24,17 +24,7 @@ abbrev pub is_trunc : ℕ → Bool
 is_trunc flags = not (bit_and flags 0o1000 == 0)
 
 abbrev reading : Flags
-reading = record {
-  read = true;
-  write = false;
-  create = false;
-  excl = false;
-  trunc = false;
-  append = false;
-  nofollow = false;
-  directory = false;
-  opens = refl;
-}
+reading = record { read = true; write = false; create = false; excl = false; trunc = false; append = false; nofollow = false; directory = false; opens = refl }
 
 abbrev pub only : Mode → Flags
 only Reads = reading

@@ -1,7 +1,7 @@
 -- What the kernel may keep of names, whatever is replied.
 --     name_valid_in        for how many seconds a name is told
 --     MayKeepName, NamesAreKeptWhereJudged        a name, or that nothing has it
---     IsMissing, OnlyMissingNamesAreAbsent        that nothing has it
+--     IsRefusedForAbsence, IsMissing, OnlyMissingNamesAreAbsent        that nothing has it
 use Rattle.std.specs.Prelude.{◌≡◌, ℕ, ◌<◌, true, false, List, ◌++◌, Option, Some, Ok, IsTrue}
 use Rattle.fs_cred.specs.declared.errno.Errno.TheVariants.{ENOENT}
 use Rattle.fs_cred.specs.declared.refusal.Refusal.{Refusal}
@@ -47,16 +47,20 @@ NamesAreKeptWhereJudged =
     (r : Request) (s t : Server) (body : ReplyBody) (es : List Event) (replies : List Reply) → 0 < name_valid_in body
     → IsRunOf (request_plan r s) es replies (Says body, t) → IsTrue s.settings.posix_acl × MayKeepName r s es replies
 
--- The server's own process was refused, since nothing has the name.
-pub record IsMissing (server_process : Option ℕ) (es : List Event) (replies : List Reply) : Type 0 where
-  pub pid : ℕ
-  pub own : server_process ≡ Some pid
+-- A process was refused, since nothing has the name.
+pub record IsRefusedForAbsence (pid : ℕ) (es : List Event) (replies : List Reply) : Type 0 where
   pub event : Event
   pub is_by : IsDoneBy pid event
   pub refusal : Refusal
   pub after : List Event
   pub asked : IsAsked event (Refused refusal) after es replies
   pub for_absence : IsTrue (is_for ENOENT (Refuses refusal))
+
+-- The server's own process was.
+pub record IsMissing (server_process : Option ℕ) (es : List Event) (replies : List Reply) : Type 0 where
+  pub pid : ℕ
+  pub own : server_process ≡ Some pid
+  pub refused : IsRefusedForAbsence pid es replies
 
 -- Whatever was replied: it is told that nothing has a name only where that process finds nothing.
 abbrev pub OnlyMissingNamesAreAbsent : Type 0

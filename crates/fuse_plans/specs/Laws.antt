@@ -157,16 +157,20 @@ FailuresChangeNothing =
 
 -- ---- what is opened
 
--- What is open under the handle has been shown to be the object of the request's node. After that it has lost its bytes at most.
-pub record OpenedObject (r : Request) (s t : Server) (es : List Event) (replies : List Reply) (handle : ℕ) : Type 0 where
-  pub number : ℕ
-  pub of_node : number_of_node s r.node ≡ Some number
+-- A handle holds an object: stat(2) has shown that of its descriptor, and nothing was asked then but that it lose its bytes.
+pub record HoldsObject (number handle : ℕ) (t : Server) (es : List Event) (replies : List Reply) : Type 0 where
   pub status : Status
   pub is_object : status.ino ≡ number
   pub after : List Event
   pub shown : IsAsked (Calls (owner_of handle) (Fstat (descriptor_of handle))) (Shown status) after es replies
   pub emptied : All (λ e. e ≡ Calls (owner_of handle) (Ftruncate (descriptor_of handle) 0)) after
   pub held : object_of t handle ≡ Some number
+
+-- What is open under the handle has been shown to be the object of the request's node. After that it has lost its bytes at most.
+pub record OpenedObject (r : Request) (s t : Server) (es : List Event) (replies : List Reply) (handle : ℕ) : Type 0 where
+  pub number : ℕ
+  pub of_node : number_of_node s r.node ≡ Some number
+  pub held : HoldsObject number handle t es replies
 
 -- Whatever was replied: where an OPEN ends well, its handle is of the object of its node.
 abbrev pub OpenedIsTheObject : Type 0
