@@ -1,29 +1,20 @@
 -- What a value of an attribute says, and what it doesn't.
-use Rattle.std.proofs.Common.{◌≡◌, ◌≢◌, ℕ, List, [], ◌∷◌, length, map, Option, Some, None, refl, sym, ap, subst, ◌∙◌, arith}
+use Rattle.std.proofs.Common.{◌≡◌, ◌≢◌, ℕ, List, [], length, Option, Some, None, sym, ap, subst, ◌∙◌, arith}
 use Rattle.posix_acl.specs.declared.entry.Entry.{Entry}
 use Rattle.posix_acl.specs.declared.fault.AclFault.{AclFault}
 use Rattle.posix_acl.specs.AccessList.{AccessList}
-use Rattle.posix_acl.specs.Entries.{plain_entries, numbers_of}
+use Rattle.posix_acl.specs.Entries.{plain_entries}
 use Rattle.posix_acl.specs.Faults.{IsListOf, first_fault}
-use Rattle.posix_acl.proofs.Laws.{numbers_injective}
+use Rattle.posix_acl.proofs.Laws.{entries_same}
 use Rattle.posix_acl.proofs.NoFault.{no_fault_in}
 use Rattle.posix_acl.proofs.Shuffled.{first_fault-IsPermutation}
 use Rattle.fuse_protocol.specs.AclValues.{IsAclValue, first_numbers}
-
-all_numbers : (es fs : List Entry) → map numbers_of es ≡ map numbers_of fs → es ≡ fs
-all_numbers [] [] same = refl
-all_numbers [] (f ∷ fs) same = absurd (cc)
-all_numbers (e ∷ es) [] same = absurd (cc)
-all_numbers (e ∷ es) (f ∷ fs) same =
-    let heads : numbers_of e ≡ numbers_of f = cc in
-    let tails : map numbers_of es ≡ map numbers_of fs = cc in
-    ap (λ x. x ∷ es) (numbers_injective e f heads) ∙ ap (λ xs. f ∷ xs) (all_numbers es fs tails)
 
 -- a value says its entries alone
 pub one_reading : (value : List ℕ) (es fs : List Entry) → IsAclValue value es → IsAclValue value fs → es ≡ fs
 one_reading value es fs e f =
     let len : length es ≡ length fs = omega (arith, e.size, f.size) in
-    all_numbers es fs (e.entries ∙ ap (first_numbers value) len ∙ sym f.entries)
+    entries_same es fs (e.entries ∙ ap (first_numbers value) len ∙ sym f.entries)
 
 none_is_some : (found : Option AclFault) (fault : AclFault) → found ≡ None → found ≡ Some fault → ⊥
 none_is_some found fault none some = absurd (let both : None ≡ Some fault = sym none ∙ some in cc)

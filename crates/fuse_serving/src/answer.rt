@@ -7,12 +7,12 @@ ghost use Rattle.fuse_plans.specs.Plans.{Finish, CarriesOut};
 ghost use Rattle.fuse_plans.specs.Serving.{answered, asked_for};
 ghost use Rattle.fuse_serving.specs.Pieces.{AnswersOne, AnswersWithMemory};
 
-use crate::caller::Caller;
+use crate::caller::Asker;
 use crate::performer::Performer;
 use crate::question::{credential_of, value_in};
 use crate::room::MAX_READ;
 use fuse_plans::{Asked, RequestError, Response};
-use fuse_protocol::{Operation, Request, Time};
+use fuse_protocol::{Operation, Request};
 use std::alloc::{AllocError, Global};
 
 // The answer where memory is lacking.
@@ -42,11 +42,9 @@ fn ask<P: Performer>(
     alloc: Global,
     performer: &mut P,
     spoken: &Request<'_>,
-    caller: &Caller,
-    needs_nobody: bool,
-    now: Time,
+    asker: &Asker,
 ) -> Result<Response, AllocError>
-    ensures answered { IfOk result (AnswersWithMemory P.Serves spoken.now caller.now needs_nobody now
+    ensures answered { IfOk result (AnswersWithMemory P.Serves spoken.now asker.now.caller asker.now.needs_nobody asker.now.now
         (P.machine performer.old) (P.machine performer.new) (P.server performer.old) (P.server performer.new)) }
     ensures machine { OnErr result (P.machine performer.new ≡ P.machine performer.old) }
     ensures kept { OnErr result (P.server performer.new ≡ P.server performer.old) }
@@ -54,13 +52,13 @@ fn ask<P: Performer>(
     if reads_too_much(&spoken.operation) {
         return Err(AllocError);
     }
-    let cred = credential_of(alloc, spoken.uid, spoken.gid, caller)?;
+    let cred = credential_of(alloc, spoken.uid, spoken.gid, &asker.caller)?;
     let value = value_in(alloc, &spoken.operation)?;
     let asked = Asked {
         node: spoken.node,
-        needs_nobody,
+        needs_nobody: asker.needs_nobody,
         cred,
-        now,
+        now: asker.now,
     };
     let response = performer.perform(asked, value, &spoken.operation)?;
     Ok(response)
@@ -71,14 +69,12 @@ pub(crate) fn answer<P: Performer>(
     alloc: Global,
     performer: &mut P,
     spoken: &Request<'_>,
-    caller: &Caller,
-    needs_nobody: bool,
-    now: Time,
+    asker: &Asker,
 ) -> Response
-    ensures { AnswersOne P.Serves spoken.now caller.now needs_nobody now
+    ensures { AnswersOne P.Serves spoken.now asker.now.caller asker.now.needs_nobody asker.now.now
         (P.machine performer.old) (P.machine performer.new) (P.server performer.old) (P.server performer.new) result }
 {
-    match ask(alloc, performer, spoken, caller, needs_nobody, now) {
+    match ask(alloc, performer, spoken, asker) {
         Ok(response) => response,
         Err(AllocError) => refused(&spoken.operation),
     }

@@ -4,6 +4,7 @@ ghost use Rattle.fs_cred.specs.Capabilities.{no_caps};
 
 use bitflags::Flags;
 use fs_cred::Caps;
+use fuse_protocol::Time;
 use std::alloc::{AllocError, Global};
 use std::marker::Model;
 
@@ -77,4 +78,12 @@ impl Caller {
             caps: Caps::empty(),
         }
     }
+}
+
+/// Who asks, as far as that counts, and when.
+#[derive(Drop)]
+pub(crate) struct Asker {
+    pub(crate) caller: Caller,
+    pub(crate) needs_nobody: bool,
+    pub(crate) now: Time,
 }

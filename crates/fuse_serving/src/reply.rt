@@ -6,7 +6,7 @@ ghost use Rattle.fuse_protocol.specs.Replies.{IsReply, reply_bytes};
 ghost use Rattle.fuse_protocol.specs.declared.reply.Reply.TheVariants.{Bytes as BytesReply, Count as CountReply, Error as ErrorReply};
 ghost use Rattle.fuse_plans.specs.Protocol.{reply_of_body, response_bytes};
 ghost use Rattle.fuse_plans.specs.RequestErrors.{error_number};
-ghost use Rattle.fuse_plans.specs.declared.reply.ReplyBody.TheVariants.{Found, Shown, Created};
+ghost use Rattle.fuse_plans.specs.declared.reply.ReplyBody.TheVariants.{Found, Shown, Created, Space};
 ghost use Rattle.fuse_serving.specs.Rounds.{has_reply};
 
 use crate::room::ReplyRoom;
@@ -77,24 +77,24 @@ fn write_acl(room: &mut ReplyRoom, unique: u64, acl: &Acl) -> Result<(), ReplyFa
     Ok(())
 }
 
-fn room_of(sectors: u32, free_sectors: u32, inodes: u32, free_inodes: u32, max_name: u32) -> Room
-    ensures { result ≡ record {
-      blocks = sectors;
-      free_blocks = free_sectors;
-      inodes = inodes;
-      free_inodes = free_inodes;
-      block_size = 512;
-      max_name = max_name;
-    } }
+// How much room there is.
+fn space_reply(
+    sectors: u32,
+    free_sectors: u32,
+    inodes: u32,
+    free_inodes: u32,
+    max_name: u32,
+) -> Reply<'static>
+    ensures { result ≡ reply_of_body (Space sectors free_sectors inodes free_inodes max_name) }
 {
-    Room {
+    Reply::StatFs(Room {
         blocks: u64::from(sectors),
         free_blocks: u64::from(free_sectors),
         inodes: u64::from(inodes),
         free_inodes: u64::from(free_inodes),
         block_size: 512,
         max_name,
-    }
+    })
 }
 
 // What is told of an object.
@@ -166,7 +166,7 @@ fn write_body(room: &mut ReplyRoom, unique: u64, body: &ReplyBody) -> Result<(),
             inodes,
             free_inodes,
             max_name,
-        } => Reply::StatFs(room_of(*sectors, *free_sectors, *inodes, *free_inodes, *max_name)),
+        } => space_reply(*sectors, *free_sectors, *inodes, *free_inodes, *max_name),
         ReplyBody::Agreed(terms) => Reply::Init(*terms),
     };
     write_one(&mut room.reply, unique, &reply)?;

@@ -6,7 +6,7 @@ ghost use Rattle.fuse_serving.specs.Rounds.{tells, asks_for, IsKnownAs, IsOfRepl
 ghost use Rattle.fuse_serving.specs.Pieces.{ReadComesTo, ReadBreaks, ComesTo, SpokenServed, scene};
 
 use crate::answer::answer;
-use crate::caller::Caller;
+use crate::caller::{Asker, Caller};
 use crate::fault::ServeFault;
 use crate::kernel::Kernel;
 use crate::performer::Performer;
@@ -68,7 +68,12 @@ fn serve_spoken<P: Performer, K: Kernel, W: Witness>(
     };
     let who = performer.who_counts(spoken.node, spoken.uid, &spoken.operation);
     let caller = learn(alloc, kernel, spoken, who);
-    let response = answer(alloc, performer, spoken, &caller, who.is_nobody(), now);
+    let asker = Asker {
+        caller,
+        needs_nobody: who.is_nobody(),
+        now,
+    };
+    let response = answer(alloc, performer, spoken, &asker);
     witness.see(spoken, &response, now);
     let _taken = tell(kernel, room, spoken.unique, &response)?;
     Ok(())

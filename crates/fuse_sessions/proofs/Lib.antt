@@ -3,4 +3,3 @@ mod ByDentries
 mod Doings
 mod Judging
 mod Listings
-mod Pieces

@@ -1,19 +1,20 @@
 //! Requests for attributes: what stat(2) shows, and what changes it.
-ghost use Rattle.std.specs.Prelude.{◌≡◌, ◌+◌, ◌≤◌, ◌&&◌, ◌||◌, not, is_some};
-ghost use Rattle.fuse_plans.specs.AttributePlans.{tell_attributes, get_attributes, is_known_link, differs, owners_stay, new_owners, resize_object, set_size, set_owners, set_mode, is_now, may_set_times, set_times, change_attributes, tell_times, set_attributes, tell_target, read_link, access_as, ask_access};
+ghost use Rattle.std.specs.Prelude.{◌≡◌, ◌+◌, ◌≤◌};
+ghost use Rattle.fuse_plans.specs.AttributePlans.{tell_attributes, get_attributes, is_known_link, new_owners, resize_object, set_size, set_owners, set_mode, may_set_times, set_times, change_attributes, tell_times, set_attributes, tell_target, read_link, access_as, ask_access};
 ghost use Rattle.fuse_plans.specs.FilePlans.{when};
 ghost use Rattle.fuse_sessions.specs.Performing.{Did};
-ghost use Rattle.fuse_plans.specs.Works.{of_result};
-ghost use Rattle.fs_cred.specs.Ownership.{counts_as_owner};
 
 use crate::session::Session;
-use fs_cred::{Cred, may_own};
+use fs_cred::Cred;
 use fs_model::{Bytes, Call, FileType, Reply, Status};
 use fuse_plans::{Asked, ReplyBody, RequestError};
-use fuse_protocol::{AttrChanges, NewTime, Time};
+use fuse_protocol::{AttrChanges, Time};
 use fuse_state::descriptor_of;
 use fuse_steps::Machine;
 use fuse_steps::asker::done;
+use fuse_steps::changes::{
+    changes_more, counts_as_owner, needs_owner, owners_stay, sets_owners, sets_times,
+};
 use fuse_steps::name::attributes;
 use fuse_steps::replies::target_of_reply;
 use posix_acl::Perms;
@@ -23,72 +24,6 @@ pub(crate) fn is_known_link(kind: Option<FileType>) -> bool
     ensures { result ≡ is_known_link kind }
 {
     matches!(kind, Some(FileType::Link))
-}
-
-// Whether a number is to be set that isn't there already.
-fn differs(wanted: Option<u32>, present: u32) -> bool
-    ensures { result ≡ differs wanted present }
-{
-    match wanted {
-        Some(wanted) => wanted != present,
-        None => false,
-    }
-}
-
-// Neither the owner nor the group are to be others.
-fn owners_stay(
-    changes: &AttrChanges,
-    status: Status,
-) -> Result<(Option<u32>, Option<u32>), RequestError>
-    ensures { owners_stay changes.now status ≡ of_result result }
-{
-    if differs(changes.uid, status.owner) || differs(changes.gid, status.group) {
-        Err(RequestError::EOPNOTSUPP)
-    } else {
-        Ok((None, None))
-    }
-}
-
-// Whether a time is set to the present.
-fn is_now(time: Option<NewTime>) -> bool
-    ensures { result ≡ is_now time }
-{
-    matches!(time, Some(NewTime::Now))
-}
-
-// Whether who asks counts as the owner.
-fn counts_as_owner(cred: &Cred, owner: u32) -> bool
-    ensures { result ≡ counts_as_owner cred.now owner }
-{
-    may_own(cred, owner).is_ok()
-}
-
-// Whether what a link has not is to change.
-fn changes_more(changes: &AttrChanges) -> bool
-    ensures { result ≡ (is_some changes.now.mode || is_some changes.now.size) }
-{
-    changes.mode.is_some() || changes.size.is_some()
-}
-
-// Whether an owner or a group is to be set.
-fn sets_owners(owners: (Option<u32>, Option<u32>)) -> bool
-    ensures { result ≡ (is_some owners.0 || is_some owners.1) }
-{
-    owners.0.is_some() || owners.1.is_some()
-}
-
-// Whether a time is to be set.
-fn sets_times(changes: &AttrChanges) -> bool
-    ensures { result ≡ (is_some changes.now.atime || is_some changes.now.mtime) }
-{
-    changes.atime.is_some() || changes.mtime.is_some()
-}
-
-// Whether times are set that only an owner may set.
-fn needs_owner(link: bool, changes: &AttrChanges) -> bool
-    ensures { result ≡ (link || not (is_now changes.now.atime && is_now changes.now.mtime)) }
-{
-    link || !is_now(changes.atime) || !is_now(changes.mtime)
 }
 
 impl<M: Machine> Session<M> {

@@ -1,11 +1,10 @@
 //! Requests for directories. An open one holds no descriptor of the machine.
 ghost use Rattle.std.specs.Prelude.{◌≡◌, ◌+◌, ◌≤◌, [], vec_capacity, true, Err, IsSome, OnOk, IfErr};
 ghost use Rattle.fuse_plans.specs.Callers.{has_dentry};
-ghost use Rattle.fuse_plans.specs.DirectoryPlans.{open_directory, directory_flags, opened_directory_body, take_directory, tell_names, list_open, list_and_close, list_all, list_now, list_kept, read_directory, close_directory};
+ghost use Rattle.fuse_plans.specs.DirectoryPlans.{open_directory, directory_flags, opened_directory_body, take_directory, list_all, list_now, list_kept, read_directory, close_directory};
 ghost use Rattle.fuse_state.specs.Servers.{directory_of};
 ghost use Rattle.fuse_sessions.specs.Listings.{Listed};
 ghost use Rattle.fuse_sessions.specs.Performing.{Did};
-ghost use Rattle.fuse_steps.specs.Performing.{DidByMachine};
 
 use crate::object::has_dentry;
 use crate::session::Session;
@@ -16,8 +15,8 @@ use fuse_plans::{Asked, ReplyBody, RequestError};
 use fuse_protocol::{Extent, OpenedFlags};
 use fuse_state::{Server, Settings};
 use fuse_steps::Machine;
-use fuse_steps::asker::{obtain_once, or_closed};
 use fuse_steps::cursor::in_order;
+use fuse_steps::directory::list_and_close;
 use fuse_steps::flags::listing;
 use fuse_steps::listing::listing_bytes;
 use fuse_steps::replies::{fd_of_reply, names_of_reply};
@@ -40,35 +39,6 @@ fn opened_body(server: &Server, handle: u64) -> ReplyBody
     ensures { result ≡ opened_directory_body handle server.now.server }
 {
     ReplyBody::Opened(handle, directory_flags(server.settings()))
-}
-
-// The names in what is open.
-fn tell_names<M: Machine>(machine: &mut M, pid: usize, fd: usize) -> Result<Listing, RequestError>
-    ensures { DidByMachine M.Serves (tell_names pid fd) machine.old machine.new result }
-{
-    let reply = obtain_once(machine, pid, Call::Readdir(fd))?;
-    names_of_reply(reply).ok_or(RequestError::EIO)
-}
-
-// The names in what was opened; where it tells none that is closed.
-fn list_open<M: Machine>(machine: &mut M, pid: usize, fd: usize) -> Result<Listing, RequestError>
-    ensures { DidByMachine M.Serves (list_open pid fd) machine.old machine.new result }
-{
-    let seen = tell_names(machine, pid, fd);
-    or_closed(machine, pid, fd, seen)
-}
-
-// The names in what was opened, and then it is closed.
-fn list_and_close<M: Machine>(
-    machine: &mut M,
-    pid: usize,
-    fd: usize,
-) -> Result<Listing, RequestError>
-    ensures { DidByMachine M.Serves (list_and_close pid fd) machine.old machine.new result }
-{
-    let names = list_open(machine, pid, fd)?;
-    obtain_once(machine, pid, Call::Close(fd))?.discard();
-    Ok(names)
 }
 
 impl<M: Machine> Session<M> {

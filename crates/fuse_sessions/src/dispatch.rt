@@ -12,17 +12,17 @@ ghost use Rattle.fuse_sessions.specs.declared.family.Family.TheVariants as famil
 ghost use Rattle.fuse_plans.specs.declared.request.Asked.{Asked as AskedBy};
 
 use crate::family::{Family, family_of};
-use crate::handles::{room_for_pieces, room_to_read};
 use crate::listing::LEAST_RECORD;
 use crate::session::Session;
-use crate::xattrs::AclNames;
 use fs_cred::Cred;
 use fs_model::Path;
 use fuse_plans::{Asked, ReplyBody, RequestError, Response};
 use fuse_protocol::{Extent, Operation, Piece};
 use fuse_steps::Machine;
+use fuse_steps::acls::AclNames;
 use fuse_steps::flags::is_trunc;
 use fuse_steps::name_room::NameRoom;
+use fuse_steps::runs::{room_for_pieces, room_to_read};
 use posix_acl::Acl;
 use std::alloc::AllocError;
 

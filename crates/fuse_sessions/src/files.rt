@@ -1,14 +1,12 @@
 //! Requests that open files.
 ghost use Rattle.std.specs.Prelude.{◌≡◌, ◌+◌, ◌≤◌, ◌&&◌, not, Err};
-ghost use Rattle.fuse_plans.specs.FilePlans.{ask_first, asked_mode, touched_if, confirm_shown, confirm_open, open_object, open_granted, open_file, or_opened, open_or_make, show_open, show_timed, look_open, file_flags, opened_body, created_body, tell_created, create_by, create_file};
+ghost use Rattle.fuse_plans.specs.FilePlans.{ask_first, asked_mode, touched_if, open_object, open_granted, open_file, or_opened, open_or_make, show_timed, look_open, file_flags, opened_body, created_body, tell_created, create_by, create_file};
 ghost use Rattle.fs_cred.specs.declared.errno.Errno.TheVariants.{EEXIST};
 ghost use Rattle.fuse_plans.specs.Flags.{is_trunc, is_excl};
 ghost use Rattle.fuse_plans.specs.RequestErrors.{is_for};
 ghost use Rattle.fuse_sessions.specs.Performing.{Did};
 ghost use Rattle.fuse_steps.specs.Performing.{DidByMachine};
 
-use crate::names::set_umask;
-use crate::object::shown;
 use crate::session::Session;
 use bitflags::Flags as _;
 use fs_cred::{Cred, Errno};
@@ -17,10 +15,12 @@ use fuse_plans::{Asked, Mode, ReplyBody, RequestError};
 use fuse_protocol::{OpenFlags, OpenedFlags, Time};
 use fuse_state::{Dentry, Server, Settings, descriptor_of};
 use fuse_steps::Machine;
-use fuse_steps::asker::{done, inside, obtain_once, or_closed};
+use fuse_steps::asker::{inside, or_closed};
+use fuse_steps::directory::set_umask;
 use fuse_steps::flags::{creating, is_excl, is_exec, is_trunc, opening};
-use fuse_steps::name::{attributes, dentry, only_inode, plain_name};
+use fuse_steps::name::{attributes, dentry, plain_name};
 use fuse_steps::replies::{fd_of_reply, handle_within};
+use fuse_steps::seen::{confirm_open, show_open};
 use posix_acl::Perms;
 
 // To lose its bytes a file is opened for writing too.
@@ -131,45 +131,6 @@ fn open_or_make<M: Machine>(
         Ok(reply) => (Ok((reply, true)), name),
         Err(error) => or_opened(machine, pid, dir_ino, name, mode, flags, error),
     }
-}
-
-// What stat(2) shows of what is open.
-fn show_open<M: Machine>(machine: &mut M, pid: usize, fd: usize) -> Result<Status, RequestError>
-    ensures { DidByMachine M.Serves (show_open pid fd) machine.old machine.new result }
-{
-    shown(obtain_once(machine, pid, Call::Fstat(fd)))
-}
-
-// What is open is this object, and loses its bytes, if it is to.
-fn confirm_shown<M: Machine>(
-    machine: &mut M,
-    pid: usize,
-    fd: usize,
-    ino: u32,
-    is_cut: bool,
-) -> Result<(), RequestError>
-    ensures { DidByMachine M.Serves (confirm_shown pid fd ino is_cut) machine.old machine.new result }
-{
-    let status = show_open(machine, pid, fd)?;
-    only_inode(ino, status)?;
-    if !is_cut {
-        return Ok(());
-    }
-    done(obtain_once(machine, pid, Call::Ftruncate(fd, 0)))
-}
-
-// What is open is confirmed as by `confirm_shown`; where it is another object, or isn't shown, it is closed.
-fn confirm_open<M: Machine>(
-    machine: &mut M,
-    pid: usize,
-    fd: usize,
-    ino: u32,
-    is_cut: bool,
-) -> Result<(), RequestError>
-    ensures { DidByMachine M.Serves (confirm_open pid fd ino is_cut) machine.old machine.new result }
-{
-    let confirmed = confirm_shown(machine, pid, fd, ino, is_cut);
-    or_closed(machine, pid, fd, confirmed)
 }
 
 impl<M: Machine> Session<M> {

@@ -1,9 +1,7 @@
 //! Requests for names that go, and for further names.
 ghost use Rattle.std.specs.Prelude.{◌≡◌, ◌≤◌};
-ghost use Rattle.fuse_plans.specs.Callers.{done_between};
-ghost use Rattle.fuse_plans.specs.NamePlans.{remove, removal, nothing_to_replace, may_move, rename, move_to, move_name, link_by_dentry, tell_linked, link_as, add_link};
+ghost use Rattle.fuse_plans.specs.NamePlans.{remove, removal, may_move, rename, move_to, move_name, link_by_dentry, tell_linked, link_as, add_link};
 ghost use Rattle.fuse_sessions.specs.Performing.{Did};
-ghost use Rattle.fuse_steps.specs.Performing.{DidByMachine};
 
 use crate::session::Session;
 use fs_cred::Cred;
@@ -12,55 +10,10 @@ use fuse_plans::{Asked, ReplyBody, RequestError};
 use fuse_protocol::Time;
 use fuse_state::Dentry;
 use fuse_steps::Machine;
-use fuse_steps::asker::{done, done_between, inside};
-use fuse_steps::name::{dentry, found_body, none_there, only_no_replace, plain_name};
+use fuse_steps::asker::{done, done_between};
+use fuse_steps::directory::{nothing_to_replace, remove_inside};
+use fuse_steps::name::{dentry, found_body, only_no_replace, plain_name};
 use fuse_steps::path::names_in;
-
-// Removes a name: of a directory, or of something else.
-fn removal(of_directory: bool, name: Path) -> Call
-    ensures { result ≡ removal of_directory name }
-{
-    if of_directory {
-        Call::Rmdir(name)
-    } else {
-        Call::Unlink(name)
-    }
-}
-
-// A machine removes a name. The name comes back.
-fn remove_inside<M: Machine>(
-    machine: &mut M,
-    pid: usize,
-    dir_ino: u32,
-    of_directory: bool,
-    name: Path,
-) -> (Result<(), RequestError>, Path)
-    ensures did { let call = removal of_directory name in
-        DidByMachine M.Serves (done_between pid dir_ino dir_ino call) machine.old machine.new result.0 }
-    ensures name { result.1 ≡ name }
-{
-    let call = removal(of_directory, name);
-    let (tried, name) = inside(machine, pid, dir_ino, call);
-    (done(tried), name)
-}
-
-// Where nothing is to be replaced, the name leads nowhere. It comes back.
-fn nothing_to_replace<M: Machine>(
-    machine: &mut M,
-    flags: u32,
-    pid: usize,
-    dir_ino: u32,
-    name: Path,
-) -> (Result<(), RequestError>, Path)
-    ensures did { DidByMachine M.Serves (nothing_to_replace flags pid dir_ino name) machine.old machine.new result.0 }
-    ensures name { result.1 ≡ name }
-{
-    if flags == 0 {
-        return (Ok(()), name);
-    }
-    let (there, name) = inside(machine, pid, dir_ino, Call::Lstat(name));
-    (none_there(there), name)
-}
 
 impl<M: Machine> Session<M> {
     /// Removes a name: of a directory, or of something else.

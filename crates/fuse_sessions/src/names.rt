@@ -1,85 +1,24 @@
 //! Requests for names that are found or made: each is asked of a directory, and performed by a process of who asks, but for look-ups
 //! that need nobody.
 ghost use Rattle.std.specs.Prelude.{◌≡◌, ◌+◌, ◌≤◌, ℕ, List, Some, IsSome, Ok};
-ghost use Rattle.fuse_plans.specs.NamePlans.{directory_for, find_name, made, make_by, directory_and_caller, make_link, set_umask, make_masked, make_directory, close, open_and_close, opens, done_closed, make_file, searched_directory, found_or_absent, find_inside, searcher, new_valid};
+ghost use Rattle.fuse_plans.specs.NamePlans.{directory_for, find_name, made, make_by, directory_and_caller, make_link, make_masked, make_directory, make_file, searched_directory, found_or_absent, find_inside, searcher, new_valid};
 ghost use Rattle.fuse_plans.specs.Paths.{name_in};
 ghost use Rattle.fuse_sessions.specs.Performing.{Did};
-ghost use Rattle.fuse_steps.specs.Performing.{DidByMachine};
 
-use crate::object::look_inside;
 use crate::session::Session;
 use fs_cred::Cred;
-use fs_model::{Call, Path, Reply, Status};
+use fs_model::{Call, Path, Status};
 use fuse_plans::{Asked, ReplyBody, RequestError};
 use fuse_protocol::Time;
 use fuse_steps::Machine;
-use fuse_steps::asker::{between, done, done_between, obtain_once};
+use fuse_steps::directory::{done_closed, set_umask};
 use fuse_steps::flags::making;
 use fuse_steps::name::{
     dentry, found_body, keeps_names, looked_up_body, only_file, or_absent, or_keep_absent,
     plain_name, unless_hidden,
 };
 use fuse_steps::path::name_in;
-use fuse_steps::replies::fd_of_reply;
-
-/// New objects of the process are made with this mask from now on.
-pub(crate) fn set_umask<M: Machine>(
-    machine: &mut M,
-    pid: usize,
-    umask: u32,
-) -> Result<Reply, RequestError>
-    ensures { DidByMachine M.Serves (set_umask pid umask) machine.old machine.new result }
-{
-    obtain_once(machine, pid, Call::Umask((umask & 0o777) as u16))
-}
-
-// Closes a descriptor.
-fn close<M: Machine>(machine: &mut M, pid: usize, fd: usize) -> Result<(), RequestError>
-    ensures { DidByMachine M.Serves (close pid fd) machine.old machine.new result }
-{
-    done(obtain_once(machine, pid, Call::Close(fd)))
-}
-
-// What a call opens in a directory is closed.
-fn open_and_close<M: Machine>(
-    machine: &mut M,
-    pid: usize,
-    dir_ino: u32,
-    call: &Call,
-) -> Result<(), RequestError>
-    ensures { DidByMachine M.Serves (open_and_close pid dir_ino call.now) machine.old machine.new result }
-{
-    let reply = between(machine, pid, dir_ino, dir_ino, call)?;
-    let fd = fd_of_reply(&reply);
-    reply.discard();
-    let Some(fd) = fd else {
-        return Err(RequestError::EIO);
-    };
-    close(machine, pid, fd)
-}
-
-// Whether a call opens something.
-fn opens(call: &Call) -> bool
-    ensures { result ≡ opens call.now }
-{
-    matches!(call, Call::Open(..))
-}
-
-// A call in a directory, after which nothing is open.
-fn done_closed<M: Machine>(
-    machine: &mut M,
-    pid: usize,
-    dir_ino: u32,
-    call: &Call,
-) -> Result<(), RequestError>
-    ensures { DidByMachine M.Serves (done_closed pid dir_ino call.now) machine.old machine.new result }
-{
-    if opens(call) {
-        open_and_close(machine, pid, dir_ino, call)
-    } else {
-        done_between(machine, pid, dir_ino, dir_ino, call)
-    }
-}
+use fuse_steps::seen::look_inside;
 
 impl<M: Machine> Session<M> {
     /// What has a name in a directory. The credential is a copy of that of who asks.

@@ -1,54 +1,23 @@
 //! Who counts of those who ask: of others nothing is even learnt.
 ghost use Rattle.std.specs.Prelude.{◌≡◌, codes};
-ghost use Rattle.fuse_plans.specs.Masks.{may_hide, grants_nothing, hides, seen_by_server_process, asks_list, list_hides, is_masked};
+ghost use Rattle.fuse_plans.specs.Masks.{seen_by_server_process, asks_list, list_hides, is_masked};
 ghost use Rattle.fuse_plans.specs.Callers.{look_inside};
 ghost use Rattle.fuse_plans.specs.Nobody.{asks_reading, grants_owner, is_judged, is_owner, needs_nobody, owns_object, who_counts};
 ghost use Rattle.fuse_plans.specs.Plans.{CarriesOut};
 ghost use Rattle.fuse_sessions.specs.Performing.{Did};
 
-use crate::object::shown;
 use crate::session::Session;
 use fs_model::{AclType, Call, Status};
 use fuse_plans::{Mode, RequestError, WhoCounts, needs_caller};
 use fuse_protocol::Operation;
 use fuse_steps::Machine;
+use fuse_steps::acls::{hides, may_hide};
 use fuse_steps::flags::{is_exec, is_trunc};
-use posix_acl::{Acl, Perms};
-
-// Of a mode, what its group class and others are granted.
-const GROUP_CLASS: u16 = 0o070;
-
-const OTHERS_SEARCH: u16 = 0o001;
+use fuse_steps::seen::shown;
 
 const OWNER_READS: u16 = 0o400;
 
 const OWNER_SEARCHES: u16 = 0o100;
-
-// The group class is granted nothing, and others search.
-fn may_hide(mode: u16) -> bool
-    ensures { result ≡ may_hide mode }
-{
-    mode & GROUP_CLASS == 0 && mode & OTHERS_SEARCH != 0
-}
-
-fn grants_nothing(mask: Option<Perms>) -> bool
-    ensures { result ≡ grants_nothing mask }
-{
-    match mask {
-        Some(mask) => mask.digit() == 0,
-        None => false,
-    }
-}
-
-// The mask of an access list is `---`, and others search.
-fn hides(acl: &Option<Acl>) -> bool
-    ensures { result ≡ hides acl.now }
-{
-    match acl {
-        Some(acl) => grants_nothing(acl.mask()) && acl.other().execute,
-        None => false,
-    }
-}
 
 // The user owns what was shown, and its mode grants the owner this.
 fn grants_owner(uid: u32, bit: u16, status: Status) -> bool

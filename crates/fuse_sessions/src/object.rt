@@ -2,12 +2,10 @@
 ghost use Rattle.std.specs.Prelude.{◌≡◌, ◌+◌, ◌^◌, ◌<◌, Err, None, Some, IsNone, IsSome, IfSome, IsTrue, MatchResult, slice_get};
 ghost use Rattle.fuse_state.specs.declared.dentry.Dentry.{Dentry as DentryOf};
 ghost use Rattle.fuse_state.specs.Servers.{kind_known, dentries_of};
-ghost use Rattle.fuse_plans.specs.Callers.{inside, at_dentry, standing_refusal, by_dentries, or_inside, on, by_server_process, has_dentry, by_handle, look_at, look, look_inside};
+ghost use Rattle.fuse_plans.specs.Callers.{inside, at_dentry, standing_refusal, by_dentries, or_inside, on, by_server_process, has_dentry, by_handle, look_at, look};
 ghost use Rattle.fuse_plans.specs.FilePlans.{when, done};
 ghost use Rattle.fuse_plans.specs.Paths.{at_path, takes_path};
 ghost use Rattle.fuse_sessions.specs.Performing.{Did};
-ghost use Rattle.fuse_steps.specs.Performing.{DidByMachine};
-ghost use Rattle.fuse_plans.specs.Works.{of_result, replied_status};
 
 use crate::number::is_known_directory;
 use crate::session::Session;
@@ -17,8 +15,8 @@ use fs_model::{Call, Name, Path, Reply, Status};
 use fuse_plans::RequestError;
 use fuse_state::{Server, descriptor_of, owner_of};
 use fuse_steps::Machine;
-use fuse_steps::asker::{done, inside, obtain_once};
-use fuse_steps::replies::status_of_reply;
+use fuse_steps::asker::{done, obtain_once};
+use fuse_steps::seen::shown;
 
 // The refusal that stands where each dentry is refused for permission.
 fn standing_refusal(before: RequestError, refusal: RequestError) -> RequestError
@@ -29,37 +27,6 @@ fn standing_refusal(before: RequestError, refusal: RequestError) -> RequestError
     } else {
         refusal
     }
-}
-
-/// What stat(2) shows, in a reply that may be a refusal.
-pub(crate) fn shown(reply: Result<Reply, RequestError>) -> Result<Status, RequestError>
-    ensures { MatchResult reply (λ shown. replied_status shown ≡ of_result result) (λ error. result ≡ Err error) }
-{
-    match reply {
-        Ok(reply) => {
-            let status = status_of_reply(&reply);
-            reply.discard();
-            match status {
-                Some(status) => Ok(status),
-                None => Err(RequestError::EIO),
-            }
-        }
-        Err(error) => Err(error),
-    }
-}
-
-/// What stat(2) shows of a name in a directory. The name comes back.
-pub(crate) fn look_inside<M: Machine>(
-    machine: &mut M,
-    pid: usize,
-    dir_ino: u32,
-    name: Path,
-) -> (Result<Status, RequestError>, Path)
-    ensures did { DidByMachine M.Serves (look_inside pid dir_ino name) machine.old machine.new result.0 }
-    ensures name { result.1 ≡ name }
-{
-    let (reply, name) = inside(machine, pid, dir_ino, Call::Lstat(name));
-    (shown(reply), name)
 }
 
 /// Whether it has a name that is known, or needs none.

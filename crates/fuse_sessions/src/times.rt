@@ -1,6 +1,6 @@
 //! Times: the present one, and those of objects, which the machine has where its disk keeps them.
 ghost use Rattle.std.specs.Prelude.{◌≡◌, ◌+◌, ◌≤◌, Ok};
-ghost use Rattle.fuse_plans.specs.AttributePlans.{time_after, timed, stamp_set, set_stamps};
+ghost use Rattle.fuse_plans.specs.AttributePlans.{timed, set_stamps};
 ghost use Rattle.fuse_plans.specs.FilePlans.{when};
 ghost use Rattle.fuse_plans.specs.Times.{tell_time, told_stamps};
 ghost use Rattle.fuse_sessions.specs.Performing.{Did};
@@ -8,29 +8,11 @@ ghost use Rattle.fuse_sessions.specs.Performing.{Did};
 use crate::session::Session;
 use fs_model::{Stamps, Status};
 use fuse_plans::RequestError;
-use fuse_protocol::{AttrChanges, NewTime, Time};
+use fuse_protocol::{AttrChanges, Time};
 use fuse_state::{Server, Times, stamp_of};
 use fuse_steps::Machine;
 use fuse_steps::name::only_inode;
-use fuse_steps::times::{ask_stamp, replied_stamps, tell_time, told_stamps};
-
-fn time_after(now: Time, old: Time, new: Option<NewTime>) -> Time
-    ensures { result ≡ time_after now old new }
-{
-    match new {
-        None => old,
-        Some(NewTime::Now) => now,
-        Some(
-            NewTime::At {
-                seconds,
-                nanoseconds,
-            },
-        ) => Time {
-            seconds,
-            nanoseconds,
-        },
-    }
-}
+use fuse_steps::times::{ask_stamp, replied_stamps, stamp_set, tell_time, time_after, told_stamps};
 
 // An object gets the new times.
 fn note_times(server: &mut Server, now: Time, ino: u32, changes: &AttrChanges)
@@ -45,16 +27,6 @@ fn note_times(server: &mut Server, now: Time, ino: u32, changes: &AttrChanges)
         ctime: now,
     };
     server.set_times(ino, times);
-}
-
-// What the machine is to have.
-fn stamp_set(now: Time, new: Option<NewTime>) -> Option<u64>
-    ensures { result ≡ stamp_set now new }
-{
-    match new {
-        None => None,
-        Some(_) => Some(stamp_of(time_after(now, now, new))),
-    }
 }
 
 impl<M: Machine> Session<M> {

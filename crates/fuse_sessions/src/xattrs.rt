@@ -1,11 +1,10 @@
 //! Requests for the two ACLs of acl(5), which are attributes to the kernel.
-ghost use Rattle.std.specs.Prelude.{◌≡◌, ◌≤◌, not, ◌&&◌, true, false};
+ghost use Rattle.std.specs.Prelude.{◌≡◌, ◌≤◌, not, ◌&&◌};
 ghost use Rattle.posix_acl.specs.AccessList.{minimal};
-ghost use Rattle.fuse_plans.specs.Masks.{told_acl, acl_of};
-ghost use Rattle.fuse_plans.specs.AclPlans.{the_acl, acl_names, attribute_names, list_xattrs, has_acls, an_object, acl_size, sized, tell_acl, get_xattr, is_of_default, is_of_mode_alone, acl_set, set_by, set_acl, set_xattr, remove_xattr};
+ghost use Rattle.fuse_plans.specs.Masks.{acl_of};
+ghost use Rattle.fuse_plans.specs.AclPlans.{attribute_names, list_xattrs, has_acls, an_object, tell_acl, get_xattr, is_of_default, acl_set, set_by, set_acl, set_xattr, remove_xattr};
 ghost use Rattle.fuse_plans.specs.Callers.{is_known_directory};
 ghost use Rattle.fuse_sessions.specs.Performing.{Did};
-ghost use Rattle.fuse_plans.specs.Works.{of_result};
 
 use crate::attributes::is_known_link;
 use crate::number::is_known_directory;
@@ -17,61 +16,15 @@ use fuse_plans::{Asked, ReplyBody, RequestError};
 use fuse_protocol::Time;
 use fuse_state::Server;
 use fuse_steps::Machine;
+use fuse_steps::acls::{AclNames, acl_size, is_plain, sized, the_acl, told_acl};
 use fuse_steps::replies::acl_of_reply;
 use posix_acl::Acl;
-use std::alloc::{AllocError, Global};
-
-// The ACL that an attribute is.
-fn the_acl(name: &[u8]) -> Result<AclType, RequestError>
-    ensures { the_acl name.now ≡ of_result result }
-{
-    if name == b"system.posix_acl_access".as_slice() {
-        Ok(AclType::Access)
-    } else if name == b"system.posix_acl_default".as_slice() {
-        Ok(AclType::Default)
-    } else {
-        Err(RequestError::EOPNOTSUPP)
-    }
-}
 
 // Whether an object is no link, and has a name.
 fn has_acls(server: &Server, ino: u32) -> bool
     ensures { result ≡ has_acls server.now.server ino }
 {
     !is_known_link(server.kind_of(ino)) && has_dentry(server, ino)
-}
-
-// An access ACL with three entries says no more than the mode.
-fn told_acl(which: AclType, acl: Option<Acl>) -> Option<Acl>
-    ensures { result ≡ told_acl which acl }
-{
-    match which {
-        AclType::Access => acl.filter(|acl| acl.is_extended()),
-        AclType::Default => acl,
-    }
-}
-
-// For a size of 0 how many bytes there are.
-fn sized(size: u32, has: usize, body: ReplyBody) -> Result<ReplyBody, RequestError>
-    ensures { sized size has body ≡ of_result result }
-{
-    if size == 0 {
-        Ok(ReplyBody::Size(has))
-    } else if (size as usize) < has {
-        Err(RequestError::ERANGE)
-    } else {
-        Ok(body)
-    }
-}
-
-// Whether an access ACL is set that says no more than the mode.
-fn is_plain(which: AclType, wanted: &Option<Acl>) -> bool
-    ensures { result ≡ is_of_mode_alone which wanted.now }
-{
-    match which {
-        AclType::Access => wanted.is_none(),
-        AclType::Default => false,
-    }
 }
 
 // Whether a default ACL is to be set on what is no directory.
@@ -81,52 +34,6 @@ fn is_misplaced(which: AclType, kind: Option<FileType>) -> bool
     match which {
         AclType::Access => false,
         AclType::Default => !is_known_directory(kind),
-    }
-}
-
-// How many bytes the value of an attribute has.
-fn acl_size(acl: &Acl) -> usize
-    ensures { result ≡ acl_size acl.now }
-{
-    4 + 8 * acl.entries().len()
-}
-
-// The name of the first ACL has so many bytes, and NUL.
-const FIRST_NAME: usize = 24;
-
-/// The names of both ACLs, and that of the second, each with NUL.
-#[derive(Drop)]
-pub(crate) struct AclNames {
-    both: Vec<u8>,
-    second: Vec<u8>,
-    // Both texts are the names, spelled as the plan spells them.
-    ghost of_both: { both.items ≡ acl_names true true },
-    ghost of_second: { second.items ≡ acl_names false true },
-}
-
-impl AclNames {
-    /// Asks for memory for the names.
-    pub(crate) fn new(alloc: Global) -> Result<AclNames, AllocError> {
-        Ok(AclNames {
-            both: Vec::from_slice(
-                alloc,
-                b"system.posix_acl_access\0system.posix_acl_default\0",
-            )?,
-            second: Vec::from_slice(alloc, b"system.posix_acl_default\0")?,
-        })
-    }
-
-    // The names of those that are there.
-    fn told(self, access: bool, default: bool) -> Bytes
-        ensures { result ≡ acl_names access default }
-    {
-        let AclNames { both, second } = self;
-        if default {
-            return Bytes::new(if access { both } else { second });
-        }
-        let mut names = both;
-        names.truncate(if access { FIRST_NAME } else { 0 });
-        Bytes::new(names)
     }
 }
 

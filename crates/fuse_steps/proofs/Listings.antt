@@ -1,6 +1,6 @@
 -- Entries of a directory, as far as they fit into a reply.
 --     entry-length        how many bytes an entry takes
---     next-name, shown-length        the names from a place on, and how many there are
+--     next-name, next-entry, shown-length        the names and entries from a place on, and how many there are
 --     told-first, told-more, told-crowded, told-done        before the first entry, with one more, before one that doesn't fit, and behind the last
 --     listed-before, listed-anew, listed-first        whether a directory is listed anew
 use Rattle.std.specs.Prelude.{◌≡◌, ℕ, suc, ◌+◌, ◌-◌, ◌<◌, ◌≤◌, nat_le, Bool, true, false, List, [], ◌∷◌, ◌++◌, length, get_or, drop, Option, None, Some, if◌then◌else◌}
@@ -18,8 +18,9 @@ use Rattle.fuse_protocol.specs.Bytes.{bytes_of_u32s, bytes_of_u64s, zeros_of}
 use Rattle.fuse_protocol.specs.Entries.{padding, entry_size, directory_entry_bytes}
 use Rattle.fuse_state.specs.declared.directory.OpenDirectory.{OpenDirectory}
 use Rattle.fuse_plans.specs.DirectoryPlans.{listed_entry, fitting, listing_bytes, list_now, listed}
-use Rattle.fuse_plans.specs.ListingOrder.{with_offsets}
+use Rattle.fuse_plans.specs.ListingOrder.{with_offsets, offset_behind}
 use Rattle.fuse_plans.specs.Works.{give}
+use Rattle.fuse_steps.proofs.Cursors.{next-offset}
 
 pub entry-length : (e : DirectoryEntry) → length (directory_entry_bytes e) ≡ entry_size (length e.name)
 unfolding directory_entry_bytes bytes_of_u32s bytes_of_u64s
@@ -37,6 +38,13 @@ next-name {shown} names i n all lt is =
     drop-cons (pairs names) i (n.name, n.ino) within ∙ ap (λ (p : List ℕ × ℕ). p ∷ drop (suc i) (pairs names)) first in
     subst (λ (s : List (List ℕ × ℕ)). drop i s ≡ (n.name, n.ino) ∷ drop (i + 1) s) all
     (subst (λ (k : ℕ). drop i (pairs names) ≡ (n.name, n.ino) ∷ drop k (pairs names)) (sym (add-one i)) after)
+
+-- the entry of the name at a place, and those behind it
+pub next-entry : {shown : List (List ℕ × ℕ)} (names : List Named) (i : ℕ) (n : Named) (before offset : ℕ) (bytes : List ℕ)
+    → pairs names ≡ shown → i < length names → n ≡ get_or names i n → offset ≡ offset_behind before bytes → bytes ≡ n.name
+    → with_offsets before (drop i shown) ≡ (offset, (n.name, n.ino)) ∷ with_offsets offset (drop (i + 1) shown)
+next-entry {shown} names i n before offset bytes all lt is of same =
+    next-offset before offset (n.name, n.ino) (of ∙ ap (offset_behind before) same) (next-name names i n all lt is)
 
 pub shown-length : {shown : List (List ℕ × ℕ)} (names : List Named) → pairs names ≡ shown → length shown ≡ length names
 shown-length {shown} names all =

@@ -3,8 +3,12 @@
 //! Nothing here reads or changes what a server keeps. `fuse_sessions` performs whole plans by these steps.
 #![tactic(auto)]
 
+pub mod acls;
+pub mod agreement;
 pub mod asker;
+pub mod changes;
 pub mod cursor;
+pub mod directory;
 pub mod flags;
 pub mod listing;
 mod machine;
@@ -13,6 +17,8 @@ pub mod name_room;
 pub mod path;
 pub mod paths;
 pub mod replies;
+pub mod runs;
+pub mod seen;
 pub mod times;
 
 pub use machine::Machine;

@@ -1,6 +1,7 @@
 //! Times: the machine is told the present one, and has those of objects, where its disk keeps them.
 ghost use Rattle.std.specs.Prelude.{◌≡◌, Ok};
 ghost use Rattle.fs_model.specs.declared.event.Event.TheVariants.{Stamp};
+ghost use Rattle.fuse_plans.specs.AttributePlans.{time_after, stamp_set};
 ghost use Rattle.fuse_plans.specs.Times.{tell_time_if, told_stamps_if, times_in};
 ghost use Rattle.fuse_plans.specs.Works.{ask, of_result, replied_stamps};
 ghost use Rattle.fuse_steps.specs.Performing.{DidByMachine};
@@ -10,7 +11,7 @@ use crate::machine::Machine;
 use crate::replies::stamps_of_reply;
 use fs_model::{Event, Reply, Stamps};
 use fuse_plans::RequestError;
-use fuse_protocol::Time;
+use fuse_protocol::{NewTime, Time};
 use fuse_state::{Server, Times, stamp_of, times_shown};
 
 /// The present time is told, if the disk keeps times. The reply doesn't count.
@@ -81,5 +82,34 @@ pub fn times_in(server: &Server, ino: u32, stamps: Option<Stamps>) -> Times
     match stamps {
         Some(stamps) => times_shown(server.settings().start, stamps),
         None => server.times_of(ino),
+    }
+}
+
+/// A time that is set, or kept.
+pub fn time_after(now: Time, old: Time, new: Option<NewTime>) -> Time
+    ensures { result ≡ time_after now old new }
+{
+    match new {
+        None => old,
+        Some(NewTime::Now) => now,
+        Some(
+            NewTime::At {
+                seconds,
+                nanoseconds,
+            },
+        ) => Time {
+            seconds,
+            nanoseconds,
+        },
+    }
+}
+
+/// What the machine is to have of a time that is set.
+pub fn stamp_set(now: Time, new: Option<NewTime>) -> Option<u64>
+    ensures { result ≡ stamp_set now new }
+{
+    match new {
+        None => None,
+        Some(_) => Some(stamp_of(time_after(now, now, new))),
     }
 }

@@ -1,10 +1,8 @@
-use Rattle.std.proofs.Common.{◌≡◌, ◌+◌, ◌≤◌, ◌∷◌, ◌∙◌, refl, sym, ap, arith, drop, length, vec_len, List, ℕ}
+use Rattle.std.proofs.Common.{◌≡◌, ◌+◌, ◌≤◌, ◌∙◌, refl, sym, ap, arith, length, vec_len}
 use Rattle.fs_model.specs.declared.listing.Named.{Named}
 use Rattle.fuse_protocol.specs.Entries.{entry_size}
 use Rattle.fuse_plans.specs.DirectoryPlans.{listing_bytes}
-use Rattle.fuse_plans.specs.ListingOrder.{with_offsets, offset_behind}
-use Rattle.fuse_steps.proofs.Cursors.{next-offset}
-use Rattle.fuse_steps.proofs.Listings.{next-name, shown-length, told-first, told-more, told-crowded, told-done, length-more, within-more}
+use Rattle.fuse_steps.proofs.Listings.{next-entry, shown-length, told-first, told-more, told-crowded, told-done, length-more, within-more}
 use Rattle.fuse_steps.proofs.listing.listing_bytes.Goals as goal
 
 pub loop-at-init : goal.loop-at-init
@@ -22,42 +20,31 @@ loop-at-init c =
 
 pub returns-then-not-push_named : goal.returns-then-not-push_named
 returns-then-not-push_named c =
-    let named : Named = c.index-names-at.result in
-    let entry : ℕ × (List ℕ × ℕ) = (c.after-next.result.before, (named.name, named.ino)) in
-    let offset : c.after-next.result.before ≡ offset_behind c.loop-at.cursor.before named.name =
-    c.after-next.ensures.offset ∙ ap (offset_behind c.loop-at.cursor.before) c.bytes.ensures.all in
-    let next : with_offsets c.loop-at.cursor.before (drop c.loop-at.at c.args.listing.now)
-    ≡ entry ∷ with_offsets c.after-next.result.before (drop (c.loop-at.at + 1) c.args.listing.now) =
-    next-offset c.loop-at.cursor.before c.after-next.result.before (named.name, named.ino) offset
-    (next-name c.names-names.result.now c.loop-at.at named c.names-names.ensures c.loop-at-test.true c.index-names-at.is) in
-    c.new.ensures ∙ told-crowded c.loop-at.bytes.items c.args.extent.size (vec_len c.loop-at.bytes) entry _ next c.loop-at.invariant.told
+    let next = next-entry c.names-names.result.now c.loop-at.at c.index-names-at.result c.loop-at.cursor.before c.after-next.result.before _
+    c.names-names.ensures c.loop-at-test.true c.index-names-at.is c.after-next.ensures.offset c.bytes.ensures.all in
+    c.new.ensures ∙ told-crowded c.loop-at.bytes.items c.args.extent.size (vec_len c.loop-at.bytes) _ _ next c.loop-at.invariant.told
     c.push_named.ensures.fits c.push_named.ensures.bytes c.loop-at.invariant.within c.if-not-push_named.true
 
 pub loop-at-preserved : goal.loop-at-preserved
 loop-at-preserved c =
+    let next = next-entry c.names-names.result.now c.loop-at.at c.index-names-at.result c.loop-at.cursor.before c.after-next.result.before _
+    c.names-names.ensures c.loop-at-test.true c.index-names-at.is c.after-next.ensures.offset c.bytes.ensures.all in
     let named : Named = c.index-names-at.result in
-    let entry : ℕ × (List ℕ × ℕ) = (c.after-next.result.before, (named.name, named.ino)) in
-    let offset : c.after-next.result.before ≡ offset_behind c.loop-at.cursor.before named.name =
-    c.after-next.ensures.offset ∙ ap (offset_behind c.loop-at.cursor.before) c.bytes.ensures.all in
-    let next : with_offsets c.loop-at.cursor.before (drop c.loop-at.at c.args.listing.now)
-    ≡ entry ∷ with_offsets c.after-next.result.before (drop (c.loop-at.at + 1) c.args.listing.now) =
-    next-offset c.loop-at.cursor.before c.after-next.result.before (named.name, named.ino) offset
-    (next-name c.names-names.result.now c.loop-at.at named c.names-names.ensures c.loop-at-test.true c.index-names-at.is) in
     let added = c.push_named.ensures in
     let more : length c.push_named.new.to.items ≡ length c.loop-at.bytes.items + entry_size (length named.name) =
-    length-more c.loop-at.bytes.items c.args.extent.size (vec_len c.loop-at.bytes) entry _ next c.loop-at.invariant.told
+    length-more c.loop-at.bytes.items c.args.extent.size (vec_len c.loop-at.bytes) _ _ next c.loop-at.invariant.told
     added.fits added.bytes c.if-not-push_named.false in
     let later : vec_len c.push_named.new.to ≡ vec_len c.loop-at.bytes + entry_size (length named.name) =
     omega (arith, more, c.push_named.new.to.ok.0, c.loop-at.bytes.ok.0) in
     let fits : vec_len c.loop-at.bytes + entry_size (length named.name) ≤ c.args.extent.size =
-    within-more c.loop-at.bytes.items c.args.extent.size (vec_len c.loop-at.bytes) entry _ next c.loop-at.invariant.told
+    within-more c.loop-at.bytes.items c.args.extent.size (vec_len c.loop-at.bytes) _ _ next c.loop-at.invariant.told
     added.fits added.bytes c.if-not-push_named.false in
     record {
       at = omega (arith, c.after-next.ensures.at, c.loop-at.invariant.at);
       small = c.after-next.ensures.small;
       room = added.capacity;
       within = omega (arith, later, fits);
-      told = told-more c.loop-at.bytes.items c.args.extent.size (vec_len c.loop-at.bytes) entry _ next c.loop-at.invariant.told
+      told = told-more c.loop-at.bytes.items c.args.extent.size (vec_len c.loop-at.bytes) _ _ next c.loop-at.invariant.told
           added.fits added.bytes (vec_len c.push_named.new.to) later c.if-not-push_named.false;
     }
 

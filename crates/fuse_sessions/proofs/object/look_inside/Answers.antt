@@ -1,7 +1,0 @@
-use Rattle.fuse_plans.specs.Callers.{look_inside}
-use Rattle.fuse_steps.proofs.Steps.{machine-then}
-use Rattle.fuse_sessions.proofs.object.look_inside.Goals as goal
-
-pub returns-clause-did : goal.returns-clause-did
-unfolding look_inside
-returns-clause-did g c = machine-then _ c.inside-reply.ensures.did c.shown.ensures

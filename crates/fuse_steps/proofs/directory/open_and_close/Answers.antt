@@ -1,0 +1,15 @@
+use Rattle.std.proofs.Common.{sym}
+use Rattle.fuse_steps.proofs.Steps.{machine-fails, machine-needs-none, machine-needs-some, machine-ok}
+use Rattle.fuse_steps.proofs.directory.open_and_close.Goals as goal
+
+pub returns-in_err-reply : goal.returns-in_err-reply
+returns-in_err-reply g c =
+    machine-fails _ c.from_residual.ensures c.in_err-reply.ensures
+
+pub returns-in_default : goal.returns-in_default
+returns-in_default g c = machine-ok _ c.in_ok-reply.ensures (machine-needs-none _ _ _ (sym c.in_default.ensures))
+
+pub returns : goal.returns
+returns g c =
+    machine-ok _ c.in_ok-reply.ensures
+    (machine-needs-some _ _ (sym c.in-Some.ensures) c.close.ensures)

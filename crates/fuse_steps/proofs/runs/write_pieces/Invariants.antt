@@ -1,0 +1,14 @@
+use Rattle.std.specs.Prelude.{ℕ, ◌+◌, ◌-◌, ◌≤◌, Result, length, map, min}
+use Rattle.fs_model.specs.declared.call.Call.TheVariants.{Write}
+use Rattle.fuse_plans.specs.declared.request_error.RequestError.{RequestError}
+use Rattle.fuse_plans.specs.FilePlans.{write_pieces, writes_of, pieces_in, pieces_of}
+use Rattle.fuse_steps.specs.Performing.{DidByMachine}
+use Rattle.fuse_steps.proofs.runs.write_pieces.Given as goal
+
+-- what is written by the pieces that are left, is written by all; they are no more than all; and there is room for each
+abbrev pub invariant-loop-round : goal.invariant-loop-round
+invariant-loop-round g l =
+    ((fin : g.row.M.Denot) (r : Result ℕ RequestError)
+    → DidByMachine g.M.Machine.Serves (write_pieces l.pid l.done (map (Write l.fd) (pieces_in l.most (pieces_of l.most (length l.bytes) - l._round) l.rest))) l.machine fin r
+    → DidByMachine g.M.Machine.Serves (write_pieces l.pid 0 (writes_of l.most l.fd l.bytes)) l.initial.machine fin r)
+    × (l.done + length l.rest ≤ length l.bytes) × (min (length l.rest) l.most ≤ length l.room)
