@@ -2,7 +2,7 @@
 ghost use Rattle.std.specs.Prelude.{◌≡◌};
 ghost use Rattle.fuse_plans.specs.Callers.{done_between};
 ghost use Rattle.fuse_plans.specs.DirectoryPlans.{tell_names, list_open, list_and_close};
-ghost use Rattle.fuse_plans.specs.NamePlans.{set_umask, close, open_and_close, opens, done_closed, removal, nothing_to_replace};
+ghost use Rattle.fuse_plans.specs.NamePlans.{set_umask, close, opens, done_closed, removal, nothing_to_replace};
 ghost use Rattle.fuse_steps.specs.Performing.{DidByMachine};
 
 use crate::asker::{between, done, done_between, inside, obtain_once, or_closed};
@@ -26,24 +26,6 @@ fn close<M: Machine>(machine: &mut M, pid: usize, fd: usize) -> Result<(), Reque
     done(obtain_once(machine, pid, Call::Close(fd)))
 }
 
-// What a call opens in a directory is closed.
-fn open_and_close<M: Machine>(
-    machine: &mut M,
-    pid: usize,
-    dir_ino: u32,
-    call: &Call,
-) -> Result<(), RequestError>
-    ensures { DidByMachine M.Serves (open_and_close pid dir_ino call.now) machine.old machine.new result }
-{
-    let reply = between(machine, pid, dir_ino, dir_ino, call)?;
-    let fd = fd_of_reply(&reply);
-    reply.discard();
-    let Some(fd) = fd else {
-        return Err(RequestError::EIO);
-    };
-    close(machine, pid, fd)
-}
-
 // Whether a call opens something.
 fn opens(call: &Call) -> bool
     ensures { result ≡ opens call.now }
@@ -51,7 +33,7 @@ fn opens(call: &Call) -> bool
     matches!(call, Call::Open(..))
 }
 
-/// A call in a directory, after which nothing is open.
+/// A call in a directory, after which nothing is open: what it opens is closed.
 pub fn done_closed<M: Machine>(
     machine: &mut M,
     pid: usize,
@@ -60,11 +42,16 @@ pub fn done_closed<M: Machine>(
 ) -> Result<(), RequestError>
     ensures { DidByMachine M.Serves (done_closed pid dir_ino call.now) machine.old machine.new result }
 {
-    if opens(call) {
-        open_and_close(machine, pid, dir_ino, call)
-    } else {
-        done_between(machine, pid, dir_ino, dir_ino, call)
+    if !opens(call) {
+        return done_between(machine, pid, dir_ino, dir_ino, call);
     }
+    let reply = between(machine, pid, dir_ino, dir_ino, call)?;
+    let fd = fd_of_reply(&reply);
+    reply.discard();
+    let Some(fd) = fd else {
+        return Err(RequestError::EIO);
+    };
+    close(machine, pid, fd)
 }
 
 // Removes a name: of a directory, or of something else.

@@ -6,18 +6,14 @@ use Rattle.fuse_sessions.proofs.session.Session.tell_named.Goals as goal
 
 pub push_looked_up-requires-clause-name : goal.push_looked_up-requires-clause-name
 push_looked_up-requires-clause-name g c =
-    let e : List ℕ × ℕ = (c.in-Some.named.now.name, c.in-Some.named.now.ino) in
-    let fits : c.len.result + record_size (length e.0) ≤ c.args.extent.size =
-    still-fits c.args.self.now.server.server c.find_copy-looked_up.new.self.server.server c.args.extent.handle c.args.cursor.at c.len.result c.args.extent.size e
-    c.in-Some.ensures.named c.find_copy-looked_up.ensures.directories c.in_ok-copy.ensures.fits refl in
+    let fits = still-fits c.args.self.now.server.server c.find_copy-looked_up.new.self.server.server c.args.extent.handle c.args.cursor.at c.len.result c.args.extent.size
+    (c.in-Some.named.now.name, c.in-Some.named.now.ino) c.in-Some.ensures.named c.find_copy-looked_up.ensures.directories c.in_ok-copy.ensures.fits refl in
     omega (arith, fits, c.in_ok-copy.ensures.small refl)
 
 pub push_looked_up-requires-clause-room : goal.push_looked_up-requires-clause-room
 push_looked_up-requires-clause-room g c =
-    let e : List ℕ × ℕ = (c.in-Some.named.now.name, c.in-Some.named.now.ino) in
-    let fits : c.len.result + record_size (length e.0) ≤ c.args.extent.size =
-    still-fits c.args.self.now.server.server c.find_copy-looked_up.new.self.server.server c.args.extent.handle c.args.cursor.at c.len.result c.args.extent.size e
-    c.in-Some.ensures.named c.find_copy-looked_up.ensures.directories c.in_ok-copy.ensures.fits refl in
+    let fits = still-fits c.args.self.now.server.server c.find_copy-looked_up.new.self.server.server c.args.extent.handle c.args.cursor.at c.len.result c.args.extent.size
+    (c.in-Some.named.now.name, c.in-Some.named.now.ino) c.in-Some.ensures.named c.find_copy-looked_up.ensures.directories c.in_ok-copy.ensures.fits refl in
     omega (arith, fits, c.len.ensures, c.requires.capacity)
 
 pub returns-clause-longer : goal.returns-clause-longer
