@@ -44,7 +44,7 @@ fn ask<P: Performer>(
     spoken: &Request<'_>,
     asker: &Asker,
 ) -> Result<Response, AllocError>
-    ensures answered { IfOk result (AnswersWithMemory P.Serves spoken.now asker.now.caller asker.now.needs_nobody asker.now.now
+    ensures answered { IfOk result (AnswersWithMemory P.Serves spoken.now asker.now.caller asker.now.needs_nobody asker.now.time
         (P.machine performer.old) (P.machine performer.new) (P.server performer.old) (P.server performer.new)) }
     ensures machine { OnErr result (P.machine performer.new ≡ P.machine performer.old) }
     ensures kept { OnErr result (P.server performer.new ≡ P.server performer.old) }
@@ -58,7 +58,7 @@ fn ask<P: Performer>(
         node: spoken.node,
         needs_nobody: asker.needs_nobody,
         cred,
-        now: asker.now,
+        now: asker.time,
     };
     let response = performer.perform(asked, value, &spoken.operation)?;
     Ok(response)
@@ -71,7 +71,7 @@ pub(crate) fn answer<P: Performer>(
     spoken: &Request<'_>,
     asker: &Asker,
 ) -> Response
-    ensures { AnswersOne P.Serves spoken.now asker.now.caller asker.now.needs_nobody asker.now.now
+    ensures { AnswersOne P.Serves spoken.now asker.now.caller asker.now.needs_nobody asker.now.time
         (P.machine performer.old) (P.machine performer.new) (P.server performer.old) (P.server performer.new) result }
 {
     match ask(alloc, performer, spoken, asker) {

@@ -85,5 +85,5 @@ impl Caller {
 pub(crate) struct Asker {
     pub(crate) caller: Caller,
     pub(crate) needs_nobody: bool,
-    pub(crate) now: Time,
+    pub(crate) time: Time,
 }

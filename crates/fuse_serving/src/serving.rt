@@ -71,7 +71,7 @@ fn serve_spoken<P: Performer, K: Kernel, W: Witness>(
     let asker = Asker {
         caller,
         needs_nobody: who.is_nobody(),
-        now,
+        time: now,
     };
     let response = answer(alloc, performer, spoken, &asker);
     witness.see(spoken, &response, now);

@@ -16,7 +16,7 @@ pub returns-in-Err : goal.returns-in-Err
 returns-in-Err g c =
     let p = g.P.Performer in
     let spoken = c.args.spoken.now in
-    let asked : Asked = record { node = spoken.node; needs_nobody = c.args.asker.now.needs_nobody; cred = credential_for spoken.uid spoken.gid (known c.args.asker.now.caller c.args.asker.now.now false); now = c.args.asker.now.now } in
+    let asked : Asked = record { node = spoken.node; needs_nobody = c.args.asker.now.needs_nobody; cred = credential_for spoken.uid spoken.gid (known c.args.asker.now.caller c.args.asker.now.time false); now = c.args.asker.now.time } in
     let before : Server = p.server c.args.performer.now in
     record {
       memory = false;

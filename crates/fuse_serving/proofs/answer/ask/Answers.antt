@@ -14,6 +14,6 @@ returns-clause-answered g c =
       acl = c.in_ok-value.value;
       has_value = c.in_ok-value.ensures;
       performs = subst
-          (λ (cred : Option Credential). CarriesOut p.Serves (answered true (asked_for (record { node = spoken.node; needs_nobody = c.args.asker.now.needs_nobody; cred = cred; now = c.args.asker.now.now }) c.in_ok-value.value (Some spoken.operation)) (p.server old)) (p.machine old) (p.machine new) (c.in_ok-response.response, p.server new))
+          (λ (cred : Option Credential). CarriesOut p.Serves (answered true (asked_for (record { node = spoken.node; needs_nobody = c.args.asker.now.needs_nobody; cred = cred; now = c.args.asker.now.time }) c.in_ok-value.value (Some spoken.operation)) (p.server old)) (p.machine old) (p.machine new) (c.in_ok-response.response, p.server new))
           c.in_ok-cred.ensures c.in_ok-response.ensures.performed;
     }
