@@ -243,14 +243,18 @@ module _ {rights : Rights} {P : Server → Type 0} where
   unfolding ask
   does-stamp n atime mtime ctime may = record { goes = λ known s fits. ((subst IsHome (sym fits.home) tt, may), λ reply. fits) }
 
+  does-if_kept : {X : Type 0} (f : Bool → Work X) (g : Server → Bool) → Does rights P (f true) → Does rights P (f false) → Does rights P (kept g >>= f)
+  does-if_kept f g where_so where_not = does->>= (does-kept g) choose
+    where
+      choose : (b : Bool) → Does rights P (f b)
+      choose true = where_so
+      choose false = where_not
+
   -- the times of each object may be asked for
   pub does-told_stamps : (n : ℕ) → Does rights P (told_stamps n)
   unfolding told_stamps
-  does-told_stamps n = does->>= (does-kept _) tells
-    where
-      tells : (keeps : Bool) → Does rights P (told_stamps_if keeps n)
-      tells false = does-give None
-      tells true = does->>= (does-stamp n None None None asks) (λ reply. does->>= (does-needed _ _) (λ stamps. does-give _))
+  does-told_stamps n =
+      does-if_kept _ _ (does->>= (does-stamp n None None None asks) (λ reply. does->>= (does-needed _ _) (λ stamps. does-give _))) (does-give None)
 
   does-clock : (now : ℕ) → Does rights P (ask (Clock now))
   unfolding ask
@@ -258,11 +262,7 @@ module _ {rights : Rights} {P : Server → Type 0} where
 
   pub does-tell_time : (now : Time) → Does rights P (tell_time now)
   unfolding tell_time
-  does-tell_time now = does->>= (does-kept _) tells
-    where
-      tells : (keeps : Bool) → Does rights P (tell_time_if keeps now)
-      tells false = does-give tt
-      tells true = does->>= (does-clock (stamp_of now)) (λ reply. does-give tt)
+  does-tell_time now = does-if_kept _ _ (does->>= (does-clock (stamp_of now)) (λ reply. does-give tt)) (does-give tt)
 
 -- ---- what is known of a value
 
