@@ -9,6 +9,7 @@ use crate::session::Session;
 use fs_model::FileType;
 use fuse_plans::RequestError;
 use fuse_steps::Machine;
+use fuse_steps::name::only_if;
 
 /// Whether it is known to be a directory.
 pub(crate) fn is_known_directory(kind: Option<FileType>) -> bool
@@ -30,11 +31,8 @@ impl<M: Machine> Session<M> {
         ensures { Did M.Serves (directory_number node) self.now self.now result }
     {
         let ino = self.the_number(node)?;
-        if is_known_directory(self.server.kind_of(ino)) {
-            Ok(ino)
-        } else {
-            Err(RequestError::ENOTDIR)
-        }
+        let is_directory = is_known_directory(self.server.kind_of(ino));
+        only_if(is_directory, ino, RequestError::ENOTDIR)
     }
 
     /// The inode of a node that is a directory and has a name: one that was removed holds no names.
@@ -42,11 +40,7 @@ impl<M: Machine> Session<M> {
         ensures { Did M.Serves (standing_directory node) self.now self.now result }
     {
         let ino = self.directory_number(node)?;
-        if has_dentry(&self.server, ino) {
-            Ok(ino)
-        } else {
-            Err(RequestError::ESTALE)
-        }
+        only_if(has_dentry(&self.server, ino), ino, RequestError::ESTALE)
     }
 
     /// The inode that is open at a handle.

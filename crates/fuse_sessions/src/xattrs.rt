@@ -17,6 +17,7 @@ use fuse_protocol::Time;
 use fuse_state::Server;
 use fuse_steps::Machine;
 use fuse_steps::acls::{AclNames, acl_size, is_plain, sized, the_acl, told_acl};
+use fuse_steps::name::only_if;
 use fuse_steps::replies::acl_of_reply;
 use posix_acl::Acl;
 
@@ -43,11 +44,7 @@ impl<M: Machine> Session<M> {
         ensures { Did M.Serves (an_object asked.entry.now) self.now self.now result }
     {
         let ino = self.the_number(asked.node)?;
-        if has_acls(&self.server, ino) {
-            Ok(ino)
-        } else {
-            Err(RequestError::EOPNOTSUPP)
-        }
+        only_if(has_acls(&self.server, ino), ino, RequestError::EOPNOTSUPP)
     }
 
     /// An ACL, where it says more than the mode.

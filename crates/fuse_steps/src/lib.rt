@@ -1,4 +1,5 @@
-//! Steps of plans: what asks a [`Machine`] one thing or two, and what is told by names, flags and replies alone.
+//! Steps of plans: what asks a [`Machine`] one thing or two, or moves bytes in runs, and what is told by names, flags and replies
+//! alone.
 //!
 //! Nothing here reads or changes what a server keeps. `fuse_sessions` performs whole plans by these steps.
 #![tactic(auto)]

@@ -1,8 +1,8 @@
 //! Names in requests, and what is told of what has one.
-ghost use Rattle.std.specs.Prelude.{◌≡◌};
+ghost use Rattle.std.specs.Prelude.{◌≡◌, if◌then◌else◌};
 ghost use Rattle.fuse_plans.specs.FilePlans.{only_inode};
 ghost use Rattle.fuse_plans.specs.NamePlans.{dentry, plain_name, attributes, found_body, judged_valid, looked_up_body, keeps_absent, or_keep_absent, keeps_names, unless_hidden, or_absent, only_file, only_no_replace, none_there};
-ghost use Rattle.fuse_plans.specs.Works.{of_result};
+ghost use Rattle.fuse_plans.specs.Works.{give, fail, of_result};
 
 use crate::times::times_in;
 use fs_cred::Errno;
@@ -41,6 +41,13 @@ pub fn only_inode(ino: u32, status: Status) -> Result<(), RequestError>
     } else {
         Err(RequestError::ESTALE)
     }
+}
+
+/// The number of an object, where that is so; else the error.
+pub fn only_if(is_so: bool, ino: u32, error: RequestError) -> Result<u32, RequestError>
+    ensures { (if is_so then give ino else fail error) ≡ of_result result }
+{
+    if is_so { Ok(ino) } else { Err(error) }
 }
 
 /// What is told of an object: what stat(2) shows, and its times: the machine's, where it has any.
