@@ -3,18 +3,4 @@
 #![tactic(auto)]
 
 #[cfg(test)]
-mod acls;
-#[cfg(test)]
-mod credentials;
-#[cfg(test)]
-mod decisions;
-#[cfg(test)]
-mod headers;
-#[cfg(test)]
-mod hex;
-#[cfg(test)]
-mod kernel_replies;
-#[cfg(test)]
-mod layout;
-#[cfg(test)]
-mod requests;
+mod tests;

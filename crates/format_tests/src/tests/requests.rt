@@ -2,7 +2,7 @@
 
 ghost use Rattle.std.specs.Prelude.{◌≤◌};
 
-use crate::hex::bytes_of;
+use crate::tests::hex::bytes_of;
 use bitflags::Flags;
 use fuse_protocol::{
     AttrChanges, Extent, NewTime, Offer, Operation, Request, RequestFault, parse_request,

@@ -3,7 +3,7 @@
 ghost use Rattle.std.specs.Prelude.{◌<◌, length};
 ghost use Rattle.fuse_protocol.specs.Replies.{IsReply};
 
-use crate::hex::{Bytes, bytes_of};
+use crate::tests::hex::{Bytes, bytes_of};
 use bitflags::Flags;
 use fuse_protocol::{
     AclValueFault, Attr, DirectoryEntry, DirectoryRecord, EntryKind, FoundEntry, InitFlags,

@@ -1,0 +1,10 @@
+//! The tests by their subjects.
+
+mod acls;
+mod credentials;
+mod decisions;
+mod headers;
+mod hex;
+mod kernel_replies;
+mod layout;
+mod requests;
