@@ -2,12 +2,4 @@
 #![tactic(auto)]
 
 #[cfg(test)]
-mod disks;
-#[cfg(test)]
-mod image_files;
-#[cfg(test)]
-mod journal;
-#[cfg(test)]
-mod transactions;
-#[cfg(test)]
-mod two_areas;
+mod tests;

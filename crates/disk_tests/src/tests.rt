@@ -1,0 +1,7 @@
+//! The tests by their subjects.
+
+mod disks;
+mod image_files;
+mod journal;
+mod transactions;
+mod two_areas;

@@ -1,0 +1,323 @@
+//! Commits on a disk with header sectors, which has two log areas and uses them in turn.
+
+ghost use Rattle.std.specs.Prelude.{◌≡◌, ◌≤◌, length, IfOk, IfSome};
+ghost use Rattle.redo_journal.specs.Batch.{IsOnDisk};
+ghost use Rattle.disk_tests.specs.Small.{HasTwoAreas};
+
+use crate::tests::disks::first_byte;
+use crate::tests::journal::disk_after_logged;
+use fs_layout::{Commit, Super, Version};
+use redo_journal::{Batch, Journal, OpenFault};
+use sector_disk::{CrashDisk, Disk, MemDisk};
+use std::alloc::{AllocError, Global};
+
+// A disk of zero sectors, but for the superblock of a disk with a header sector, and a commit sector without targets in which this
+// is written as their number.
+fn disk_with(alloc: Global, number: [u8; 4]) -> Option<MemDisk> {
+    let mut disk = MemDisk::new(alloc, 2048).ok()?;
+    let superblock = Super {
+        version: Version::Three,
+        sectors: 2048,
+        inodes: 64,
+        header: 1,
+    };
+    let mut content = [0; 512];
+    superblock.write_to(&mut content, 0);
+    disk.write(0, &content).ok()?;
+    content = Commit::idle().to_sector();
+    (&mut content[4..8]).copy_from_slice(&number);
+    disk.write(1, &content).ok()?;
+    disk.sync().ok()?;
+    Some(disk)
+}
+
+// So many sectors from one on, whose bytes are 7, 8 and so on.
+fn batch_of(alloc: Global, first: u32, count: u8) -> Result<Batch, AllocError>
+    requires behind { 512 ≤ first }
+    requires within { first ≤ 1024 }
+    ensures { IfOk result (λ batch. IsOnDisk 1 2048 batch.entries) }
+{
+    let mut batch = Batch::new(alloc, 254)?;
+    for k in 0..count {
+        if batch.len() < 254 {
+            batch.put(first + u32::from(k), &[k.wrapping_add(7); 512]);
+        }
+    }
+    Ok(batch)
+}
+
+// A journal on a disk of 2,048 sectors with a header sector.
+fn opened<D: Disk + Drop>(disk: D) -> Option<Journal<D>>
+    ensures { IfSome result (λ journal. HasTwoAreas (D.state journal)) }
+{
+    if disk.size() != 2048 {
+        return None;
+    }
+    match Journal::open(disk) {
+        Ok(journal) => with_two_areas(journal),
+        Err(_) => None,
+    }
+}
+
+// The journal, if its disk is such a one.
+fn with_two_areas<D: Disk + Drop>(journal: Journal<D>) -> Option<Journal<D>>
+    requires { (D.state journal).size ≡ 2048 }
+    ensures { IfSome result (λ journal. HasTwoAreas (D.state journal)) }
+{
+    if journal.header() == 1 {
+        Some(journal)
+    } else {
+        None
+    }
+}
+
+// The journal after a commit, if it passes.
+fn committed<D: Disk + Drop>(journal: Journal<D>, batch: &Batch) -> Option<Journal<D>>
+    requires areas { HasTwoAreas (D.state journal) }
+    requires on_disk { IsOnDisk 1 2048 batch.now.entries }
+    ensures { IfSome result (λ journal. HasTwoAreas (D.state journal)) }
+{
+    if batch.len() > 254 {
+        return None;
+    }
+    let Ok(logged) = journal.log(batch) else {
+        return None;
+    };
+    let Ok(sealed) = logged.seal(batch) else {
+        return None;
+    };
+    let Ok(journal) = sealed.install(batch) else {
+        return None;
+    };
+    with_two_areas(journal)
+}
+
+// The disk after a commit, whether it passes or not; none where the batch is too long.
+fn disk_after<D: Disk + Drop>(journal: Journal<D>, batch: &Batch) -> Option<D>
+    requires areas { HasTwoAreas (D.state journal) }
+    requires on_disk { IsOnDisk 1 2048 batch.now.entries }
+{
+    if batch.len() > 254 {
+        return None;
+    }
+    match journal.log(batch) {
+        Ok(logged) => Some(disk_after_logged(logged, batch)),
+        Err(broken) => Some(broken.into_disk()),
+    }
+}
+
+// How many sectors from 600 on are as a batch of 200 of them has them, and the first byte of sector 900.
+fn contents_of<D: Disk>(disk: &mut D) -> Option<(u8, u8)> {
+    let mut found = 0u8;
+    for k in 0..200u8 {
+        if first_byte(disk, 600 + u32::from(k)).ok()? == k.wrapping_add(7) {
+            found = found.saturating_add(1);
+        }
+    }
+    Some((found, first_byte(disk, 900).ok()?))
+}
+
+// Whether a commit passes of which so many writes and syncs do; and those contents after a stop, once the disk is opened again.
+fn stopped<D: CrashDisk + Drop>(
+    journal: Journal<D>,
+    batch: &Batch,
+    passes: u64,
+    choice: &[u8],
+) -> Option<(bool, (u8, u8))>
+    requires areas { HasTwoAreas (D.state journal) }
+    requires on_disk { IsOnDisk 1 2048 batch.now.entries }
+{
+    let mut journal = journal;
+    journal.arm(passes);
+    let mut disk = disk_after(journal, batch)?;
+    let passed = disk.failures() == 0;
+    disk.crash(choice);
+    let mut disk = opened(disk)?.into_disk();
+    Some((passed, contents_of(&mut disk)?))
+}
+
+// What a stop leaves of the first commit of a new disk, of 200 sectors from 600 on.
+fn first_stopped(alloc: Global, passes: u64, choice: &[u8]) -> Option<(bool, (u8, u8))> {
+    let journal = opened(disk_with(alloc, [0; 4])?)?;
+    let batch = batch_of(alloc, 600, 200).ok()?;
+    stopped(journal, &batch, passes, choice)
+}
+
+// A journal after that commit.
+fn after_first(alloc: Global) -> Option<Journal<MemDisk>>
+    ensures { IfSome result (λ journal. HasTwoAreas (⟦<MemDisk as Disk>⟧.state journal)) }
+{
+    let journal = opened(disk_with(alloc, [0; 4])?)?;
+    let batch = batch_of(alloc, 600, 200).ok()?;
+    committed(journal, &batch)
+}
+
+// What a stop leaves of the commit after the first, of sector 900.
+fn second_stopped(alloc: Global, passes: u64, choice: &[u8]) -> Option<(bool, (u8, u8))> {
+    let journal = after_first(alloc)?;
+    let batch = batch_of(alloc, 900, 1).ok()?;
+    stopped(journal, &batch, passes, choice)
+}
+
+// What may be left of sector 1, and of the sectors behind it.
+static CHOICES: [&[u8]; 4] = [&[], &[1; 256], &[0, 1, 1, 1], &[1, 0, 1]];
+
+// What a stop leaves where so many writes and syncs of a commit pass, by the choice for sector 1: with the commit before it, with
+// this one, or with either; and whether the commit passes.
+#[derive(Clone, Copy)]
+struct Calls {
+    log: u64,
+    seal: u64,
+    install: u64,
+}
+
+impl Calls {
+    fn wanted(self, passes: u64, choice: &[u8], old: (u8, u8), new: (u8, u8)) -> (bool, (u8, u8)) {
+        let is_new = if passes < self.log {
+            false
+        } else {
+            self.log.saturating_add(self.seal) <= passes || choice.first() == Some(&1)
+        };
+        let all = self
+            .log
+            .saturating_add(self.seal)
+            .saturating_add(self.install);
+        (all <= passes, if is_new { new } else { old })
+    }
+}
+
+#[test]
+fn a_stop_leaves_one_commit_or_the_next(rt: HostRuntime) {
+    let first = Calls {
+        log: 202,
+        seal: 2,
+        install: 200,
+    };
+    let second = Calls {
+        log: 2,
+        seal: 2,
+        install: 1,
+    };
+    for choice in CHOICES {
+        for passes in 0..406 {
+            let found = first_stopped(rt.alloc(), passes, choice);
+            let wanted = first.wanted(passes, choice, (0, 0), (200, 0));
+            assert!(rt; found == Some(wanted), "{passes} {found:?}");
+        }
+        for passes in 0..7 {
+            let found = second_stopped(rt.alloc(), passes, choice);
+            let wanted = second.wanted(passes, choice, (200, 0), (200, 7));
+            assert!(rt; found == Some(wanted), "{passes} of the second, {found:?}");
+        }
+    }
+}
+
+// A disk after both commits, and after the last is settled too.
+fn after_second(alloc: Global) -> Option<Journal<MemDisk>> {
+    let journal = after_first(alloc)?;
+    let batch = batch_of(alloc, 900, 1).ok()?;
+    committed(journal, &batch)
+}
+
+fn settled(alloc: Global) -> Option<Journal<MemDisk>> {
+    match after_second(alloc)?.settle() {
+        Ok(journal) => Some(journal),
+        Err(_) => None,
+    }
+}
+
+// Bytes of a sector from one on.
+type Row = (u32, usize, &'static [u8]);
+
+// Bytes after a commit of the sectors 600 to 799, in the first area.
+static FIRST: [Row; 10] = [
+    (1, 0, b"INOJ\xc8\0\0\0\x58\x02\0\0\x59\x02\0\0"),
+    (1, 504, b"\xd4\x02\0\0\xd5\x02\0\0"),
+    (2, 0, b"\xd6\x02\0\0\xd7\x02\0\0"),
+    (2, 288, b"\x1e\x03\0\0\x1f\x03\0\0"),
+    (3, 0, &[7; 512]),
+    (202, 0, &[206; 512]),
+    (258, 0, &[0; 512]),
+    (600, 0, &[7; 512]),
+    (799, 0, &[206; 512]),
+    (900, 0, &[0; 512]),
+];
+
+// Bytes after one more commit, of sector 900, in the second area.
+static SECOND: [Row; 8] = [
+    (1, 0, b"INOJ\x01\0\0\x80\x84\x03\0\0\0\0\0\0"),
+    (1, 504, &[0; 8]),
+    (2, 0, b"\xd6\x02\0\0\xd7\x02\0\0"),
+    (3, 0, &[7; 512]),
+    (257, 0, &[0; 512]),
+    (258, 0, &[7; 512]),
+    (259, 0, &[0; 512]),
+    (900, 0, &[7; 512]),
+];
+
+// Bytes once the journal is settled.
+static SETTLED: [Row; 3] = [
+    (1, 0, b"INOJ\0\0\0\0\0\0\0\0\0\0\0\0"),
+    (258, 0, &[7; 512]),
+    (900, 0, &[7; 512]),
+];
+
+// Whether a sector has the bytes of its row.
+fn is_written<D: Disk>(disk: &mut D, row: Row) -> bool {
+    let (n, at, bytes) = row;
+    let mut content = [0; 512];
+    if disk.size() <= n || disk.read(n, &mut content).is_err() {
+        return false;
+    }
+    (&content[at.min(512)..]).starts_with(bytes)
+}
+
+// The first sector that doesn't have the bytes of its row; 0 where there is no disk.
+fn first_wrong<D: Disk + Drop>(journal: Option<Journal<D>>, rows: &[Row]) -> Option<u32> {
+    let Some(journal) = journal else {
+        return Some(0);
+    };
+    let mut disk = journal.into_disk();
+    for row in rows {
+        if !is_written(&mut disk, *row) {
+            return Some(row.0);
+        }
+    }
+    None
+}
+
+#[test]
+fn commits_take_the_areas_in_turn(rt: HostRuntime) {
+    let found = [
+        first_wrong(after_first(rt.alloc()), &FIRST),
+        first_wrong(after_second(rt.alloc()), &SECOND),
+        first_wrong(settled(rt.alloc()), &SETTLED),
+    ];
+    assert!(rt; found == [None; 3], "{found:?}");
+}
+
+// Why a disk isn't opened whose commit sector has this as the number of its targets.
+fn refusal(alloc: Global, number: [u8; 4]) -> Option<OpenFault> {
+    let disk = disk_with(alloc, number)?;
+    if disk.size() != 2048 {
+        return None;
+    }
+    match Journal::open(disk) {
+        Ok(_) => None,
+        Err((fault, _)) => Some(fault),
+    }
+}
+
+#[test]
+fn numbers_of_targets_are_refused(rt: HostRuntime) {
+    for (number, wanted) in [
+        ([0, 0, 0, 0], None),
+        ([0, 0, 0, 0x80], Some(OpenFault::BadCommitSector)),
+        ([1, 0, 0, 0x80], Some(OpenFault::BadCommitSector)),
+        ([254, 0, 0, 0], Some(OpenFault::BadCommitSector)),
+        ([255, 0, 0, 0], Some(OpenFault::BadCommitSector)),
+    ] {
+        let found = refusal(rt.alloc(), number);
+        assert!(rt; found == wanted, "{number:?} {found:?}");
+    }
+}
