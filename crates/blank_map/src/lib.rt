@@ -2,19 +2,16 @@
 //! transaction that counts.
 //!
 //! What calls on inodes ask of a map, no test can say of one that it has made sector by sector. So it is looked at once:
-//! where [`is_blank`] says yes, calls may begin.
+//! where [`make_blank`] says yes, calls may begin.
 #![tactic(auto)]
 
-ghost use Rattle.std.specs.Prelude.{◌≡◌, ◌≤◌, ◌<◌, ℕ, false, replicate, IfOk, IsTrue, ◌↔◌};
-ghost use Rattle.fs_layout.specs.Bytes.{IsBytes, IsSector};
-ghost use Rattle.fs_layout.specs.Header.{log_end};
+ghost use Rattle.std.specs.Prelude.{◌≡◌, ◌≤◌, ◌<◌, ℕ, replicate, IfOk, OnOk, IsTrue, ◌↔◌};
+ghost use Rattle.fs_layout.specs.Bytes.{IsBytes};
 ghost use Rattle.fs_layout.specs.Geometry.{IsGeometry};
-ghost use Rattle.fs_layout.specs.Images.{HasWholeTables, bit, inode_at};
-ghost use Rattle.fs_layout.specs.Inode.{free_inode};
+ghost use Rattle.fs_layout.specs.Images.{HasWholeTables, bit};
 ghost use Rattle.sector_txn.specs.Sectors.{SameStore, IsUnchanged};
 ghost use Rattle.bit_alloc.specs.Bitmaps.{first_sector, bit_count, IsNumber};
-ghost use Rattle.bit_alloc.specs.Room.{HasSpare};
-ghost use Rattle.bit_alloc.specs.Inodes.{IsSound};
+ghost use Rattle.blank_map.specs.Maps.{IsPlaced, IsWithoutInodes};
 
 mod counted;
 
@@ -24,8 +21,8 @@ use fs_layout::Geometry;
 use sector_disk::DiskFault;
 use sector_txn::Sectors;
 
-// Whether the bitmap keeps this number.
-fn is_number(geometry: Geometry, map: Bitmap, n: u32) -> bool
+/// Whether the bitmap keeps this number.
+pub fn is_number(geometry: Geometry, map: Bitmap, n: u32) -> bool
     ensures { IsTrue result ↔ IsNumber geometry map n }
 {
     match map {
@@ -34,8 +31,8 @@ fn is_number(geometry: Geometry, map: Bitmap, n: u32) -> bool
     }
 }
 
-// How many bits the bitmap has.
-fn count_bits(geometry: Geometry, map: Bitmap) -> u32
+/// How many bits the bitmap has.
+pub fn count_bits(geometry: Geometry, map: Bitmap) -> u32
     requires { IsGeometry geometry }
     ensures { result ≡ bit_count geometry map }
 {
@@ -45,11 +42,9 @@ fn count_bits(geometry: Geometry, map: Bitmap) -> u32
     }
 }
 
-/// Puts all bitmaps and the inode table as they are where no inode and no data sector is used, as far as there is room.
-pub fn put_blank<S: Sectors>(s: &mut S, geometry: Geometry)
-    requires geometry { IsGeometry geometry }
-    requires disk { geometry.sectors ≤ (S.state s.old).disk.size }
-    requires header { log_end (S.state s.old).header ≤ geometry.inode_bitmap }
+// Puts all bitmaps and the inode table as they are where no inode and no data sector is used, as far as there is room.
+fn put_blank<S: Sectors>(s: &mut S, geometry: Geometry)
+    requires { IsPlaced geometry (S.state s.old) }
     ensures { SameStore (S.state s.old) (S.state s.new) }
 {
     for t in geometry.inode_bitmap..geometry.first_data {
@@ -83,18 +78,23 @@ fn blank_sector(geometry: Geometry, t: u32) -> [u8; 512] {
     sector
 }
 
-/// Whether all inodes and data sectors are free, the bits are set that are no number's, and there is room for all bitmaps and 12
-/// sectors.
-pub fn is_blank<S: Sectors>(s: &mut S, geometry: Geometry) -> Result<bool, DiskFault>
-    requires geometry { IsGeometry geometry }
-    requires disk { geometry.sectors ≤ (S.state s.old).disk.size }
-    requires header { log_end (S.state s.old).header ≤ geometry.inode_bitmap }
-    ensures sound { IfOk result (λ b. IsTrue b → IsSound geometry (S.state s.new)) }
-    // An inode whose bit is clear is free.
-    ensures clear { IfOk result (λ b. IsTrue b → (n : ℕ) → n < geometry.inodes → bit (S.state s.new).sectors geometry.inode_bitmap n ≡ false
-        → inode_at geometry (S.state s.new).sectors n ≡ free_inode) }
-    ensures spare { IfOk result (λ b. IsTrue b → HasSpare geometry 12 (S.state s.new)) }
+/// Makes a map on which no inode and no data sector is used, as far as there is room, and looks whether all inodes and data sectors
+/// are free, the bits are set that are no number's, and there is room for all bitmaps and 12 sectors.
+pub fn make_blank<S: Sectors>(s: &mut S, geometry: Geometry) -> Result<bool, DiskFault>
+    requires { IsPlaced geometry (S.state s.old) }
+    ensures { IfOk result (λ b. IsTrue b → IsWithoutInodes geometry (S.state s.new)) }
 {
+    put_blank(s, geometry);
+    is_blank(s, geometry)
+}
+
+// Whether all inodes and data sectors are free, the bits are set that are no number's, and there is room for all bitmaps and 12
+// sectors.
+fn is_blank<S: Sectors>(s: &mut S, geometry: Geometry) -> Result<bool, DiskFault>
+    requires { IsPlaced geometry (S.state s.old) }
+    ensures { IfOk result (λ b. IsTrue b → IsWithoutInodes geometry (S.state s.new)) }
+{
+    read_tables(s, geometry)?;
     let zero = has_zero_table(s, geometry)?;
     let inodes = has_bits(s, geometry, Bitmap::Inodes)?;
     let blocks = has_bits(s, geometry, Bitmap::Blocks)?;
@@ -110,34 +110,41 @@ pub fn is_blank<S: Sectors>(s: &mut S, geometry: Geometry) -> Result<bool, DiskF
     Ok(s.room() >= (geometry.table - geometry.inode_bitmap) as usize + 12)
 }
 
+/// Reads all bitmaps and the inode table: each sector that is read is whole.
+pub fn read_tables<S: Sectors>(s: &mut S, geometry: Geometry) -> Result<(), DiskFault>
+    requires { IsPlaced geometry (S.state s.old) }
+    ensures tables { OnOk result (HasWholeTables geometry (S.state s.new).sectors) }
+    ensures same { IsUnchanged (S.state s.old) (S.state s.new) }
+{
+    let mut sector = [0; 512];
+    for n in geometry.inode_bitmap..geometry.first_data {
+        s.get(n, &mut sector)?;
+        tell_bytes(&sector);
+    }
+    Ok(())
+}
+
 // Whether the inode table is zeros.
 fn has_zero_table<S: Sectors>(s: &mut S, geometry: Geometry) -> Result<bool, DiskFault>
-    requires geometry { IsGeometry geometry }
-    requires disk { geometry.sectors ≤ (S.state s.old).disk.size }
-    requires header { log_end (S.state s.old).header ≤ geometry.inode_bitmap }
-    ensures tables { IfOk result (λ b. IsTrue b → HasWholeTables geometry (S.state s.old).sectors) }
+    requires { IsPlaced geometry (S.state s.old) }
     ensures zero { IfOk result (λ b. IsTrue b → (t : ℕ) → geometry.table ≤ t → t < geometry.first_data
         → (S.state s.old).sectors t ≡ replicate 512 0) }
     ensures same { IsUnchanged (S.state s.old) (S.state s.new) }
 {
     let mut sector = [0; 512];
-    for t in geometry.inode_bitmap..geometry.first_data {
+    for t in geometry.table..geometry.first_data {
         s.get(t, &mut sector)?;
-        tell_bytes(&sector);
-        if !may_have(geometry, t, &sector) {
+        if !is_zeros(&sector) {
             return Ok(false);
         }
     }
     Ok(true)
 }
 
-// Whether sector t isn't one of the inode table, or is zeros.
-fn may_have(geometry: Geometry, t: u32, sector: &[u8; 512]) -> bool
-    ensures { IsTrue result → geometry.table ≤ t → sector.now ≡ replicate 512 0 }
+// Whether a sector is zeros.
+fn is_zeros(sector: &[u8; 512]) -> bool
+    ensures { IsTrue result → sector.now ≡ replicate 512 0 }
 {
-    if t < geometry.table {
-        return true;
-    }
     *sector == [0; 512]
 }
 
@@ -160,9 +167,7 @@ fn may_be(geometry: Geometry, map: Bitmap, n: u32, taken: bool) -> bool
 
 // Whether of one bitmap the bits are set that are no number's, and no others.
 fn has_bits<S: Sectors>(s: &mut S, geometry: Geometry, map: Bitmap) -> Result<bool, DiskFault>
-    requires geometry { IsGeometry geometry }
-    requires disk { geometry.sectors ≤ (S.state s.old).disk.size }
-    requires header { log_end (S.state s.old).header ≤ geometry.inode_bitmap }
+    requires { IsPlaced geometry (S.state s.old) }
     ensures set { IfOk result (λ b. IsTrue b → (n : ℕ) → n < bit_count geometry map
         → (IsTrue (bit (S.state s.old).sectors (first_sector geometry map) n) ↔ (IsNumber geometry map n → ⊥))) }
     ensures same { IsUnchanged (S.state s.old) (S.state s.new) }

@@ -1,6 +1,5 @@
 -- What the tests of a file's life ask.
-use Rattle.std.proofs.Common.{◌≡◌, ℕ, ◌-◌, ◌≤◌, ◌+◌, [], refl, ap, subst, ◌∙◌, arith}
-use Rattle.std.proofs.lemmas.List.FromFn.{length-range_with_len}
+use Rattle.std.proofs.Common.{◌≡◌, ℕ, ◌≤◌, [], refl, ap, subst, ◌∙◌, arith}
 use Rattle.fs_layout.specs.declared.inode.Inode.{Inode}
 use Rattle.fs_layout.specs.declared.geometry.Geometry.{Geometry}
 use Rattle.fs_layout.specs.Bytes.{SectorMap}
@@ -9,11 +8,10 @@ use Rattle.fs_layout.specs.Images.{Holds, inode_at}
 use Rattle.fs_layout.specs.Ownership.{IsConsistent}
 use Rattle.fs_layout.specs.Geometry.{IsGeometry}
 use Rattle.sector_txn.specs.Sectors.{TxnState, IsUnchanged}
-use Rattle.sector_txn.proofs.TransactionRuns.{lacking_at_most}
 use Rattle.bit_alloc.specs.Inodes.{IsSound, KeepsBytes}
-use Rattle.bit_alloc.specs.Room.{bitmaps, HasSpare}
 use Rattle.bit_alloc.proofs.Transactions.{map_unchanged, bitmaps_unchanged}
 use Rattle.inode_table.specs.Inodes.{DiffersInAttributes}
+use Rattle.blank_map.specs.Maps.{IsPlaced}
 
 -- a map that was only read is sound
 pub sound_unchanged : (p : Geometry) (old new : TxnState) → IsSound p old → IsUnchanged old new → IsSound p new
@@ -28,13 +26,9 @@ pub same_attributes : (p : Geometry) (n : ℕ) (old new : TxnState) → IsUnchan
 same_attributes p n old new same v is =
     subst (λ (w : Inode). DiffersInAttributes w v) (is ∙ ap (λ (image : SectorMap). inode_at p image n) (map_unchanged same)) refl
 
--- the log of a layout ends before its bitmaps
-pub log_of_geometry : {p : Geometry} {header : ℕ} → IsGeometry p → header ≡ p.header → log_end header ≤ p.inode_bitmap
-log_of_geometry geometry same = omega (arith, ap log_end same, geometry.log)
-
--- all bitmaps can be put, and so many sectors more
-pub has_spare : (p : Geometry) (k : ℕ) (txn : TxnState) → (p.table - p.inode_bitmap) + k ≤ txn.room → HasSpare p k txn
-has_spare p k txn room = omega (arith, room, lacking_at_most txn (bitmaps p), length-range_with_len p.inode_bitmap (p.table - p.inode_bitmap))
+-- a map on a disk as its layout says is where it has to be
+pub placed_on : {p : Geometry} {txn : TxnState} → IsGeometry p → p.sectors ≤ txn.disk.size → txn.header ≡ p.header → IsPlaced p txn
+placed_on geometry disk same = record { geometry = geometry; disk = disk; header = omega (arith, ap log_end same, geometry.log) }
 
 -- an inode that is read and then saved holds nothing, if it held nothing
 pub empty_after : (p : Geometry) (n : ℕ) (old mid new : TxnState) → IsUnchanged old mid

@@ -3,12 +3,4 @@
 #![tactic(auto)]
 
 #[cfg(test)]
-mod bitmaps;
-#[cfg(test)]
-mod blocks;
-#[cfg(test)]
-mod directories;
-#[cfg(test)]
-mod inodes;
-#[cfg(test)]
-mod maps;
+mod tests;

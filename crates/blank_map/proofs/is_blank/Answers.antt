@@ -1,22 +1,20 @@
-use Rattle.std.proofs.Common.{◌≡◌, ◌<◌, ◌≤◌, ◌+◌, ◌-◌, ◌/◌, ℕ, replicate, subst, arith, inl, inr, ◌⊎◌, ◌↔◌, IsTrue, ap}
+use Rattle.std.proofs.Common.{◌≡◌, ◌<◌, ◌≤◌, ◌+◌, ◌/◌, ℕ, replicate, subst, arith, inl, inr, ◌⊎◌, ◌↔◌, IsTrue}
 use Rattle.std.proofs.lemmas.Bool.{leb-true, cases_lt}
-use Rattle.std.proofs.lemmas.List.FromFn.{length-range_with_len}
 use Rattle.fs_layout.specs.declared.geometry.Geometry.{Geometry}
 use Rattle.fs_layout.specs.Bytes.{SectorMap, zeros}
-use Rattle.fs_layout.specs.Header.{log_end}
 use Rattle.fs_layout.specs.Inode.{free_inode}
 use Rattle.fs_layout.specs.Geometry.{IsGeometry}
 use Rattle.fs_layout.specs.Images.{HasWholeTables, inode_map_bits, map_bits, bit, inode_at, Owns}
 use Rattle.fs_layout.proofs.Free.{free_where_zeros, free_has_no_sector, owns_nothing, consistent_without_owners}
 use Rattle.fs_layout.proofs.Saves.{in_table}
 use Rattle.sector_txn.specs.Sectors.{TxnState}
-use Rattle.sector_txn.proofs.TransactionRuns.{lacking_at_most}
 use Rattle.bit_alloc.specs.declared.bitmap.Bitmap.TheVariants.{Inodes, Blocks}
 use Rattle.bit_alloc.specs.Bitmaps.{IsNumber}
 use Rattle.bit_alloc.specs.Inodes.{IsSound}
-use Rattle.bit_alloc.specs.Room.{bitmaps}
 use Rattle.bit_alloc.proofs.Transactions.{unchanged_joined, map_unchanged}
 use Rattle.bit_alloc.proofs.Soundness.{sound_from}
+use Rattle.blank_map.specs.Maps.{IsPlaced}
+use Rattle.blank_map.proofs.Placed.{placed_after, has_spare}
 use Rattle.blank_map.proofs.is_blank.Goals as goal
 
 -- each inode of a table of zeros is one that is not used
@@ -25,12 +23,12 @@ zero_there : (p : Geometry) (image : SectorMap) → IsGeometry p → ((t : ℕ) 
 unfolding zeros
 zero_there p image geometry zero n lt = let i = in_table p n geometry lt in zero (p.table + n / 4) i.0 i.1
 
-blank_is_sound : (p : Geometry) (t : TxnState) → IsGeometry p → p.sectors ≤ t.disk.size → log_end t.header ≤ p.inode_bitmap → HasWholeTables p t.sectors
+blank_is_sound : (p : Geometry) (t : TxnState) → IsPlaced p t → HasWholeTables p t.sectors
     → ((n : ℕ) → n < p.inodes → t.sectors (p.table + n / 4) ≡ zeros 512)
     → ((n : ℕ) → n < inode_map_bits p → IsTrue (bit t.sectors p.inode_bitmap n) ↔ (IsNumber p Inodes n → ⊥))
     → ((n : ℕ) → n < map_bits p → IsTrue (bit t.sectors p.block_bitmap n) ↔ (IsNumber p Blocks n → ⊥)) → IsSound p t
-blank_is_sound p t geometry disk header whole zero inodes blocks =
-    sound_from p t (consistent_without_owners p t.sectors geometry whole (λ n lt. (free_where_zeros p t.sectors n (zero n lt)).1) none bits) disk header outside
+blank_is_sound p t placed whole zero inodes blocks =
+    sound_from p t (consistent_without_owners p t.sectors placed.geometry whole (λ n lt. (free_where_zeros p t.sectors n (zero n lt)).1) none bits) placed.disk placed.header outside
   where
     none : (n s : ℕ) → n < p.inodes → Owns t.sectors (inode_at p t.sectors n) s → ⊥
     none n s lt o =
@@ -53,39 +51,35 @@ blank_is_sound p t geometry disk header whole zero inodes blocks =
     bits : (s : ℕ) → s < map_bits p → IsTrue (bit t.sectors p.block_bitmap s) ↔ ((s < p.first_data) ⊎ (p.sectors ≤ s))
     bits s fits = (λ yes. side s ((blocks s fits).0 yes), λ o. (blocks s fits).1 (apart s o))
 
-pub returns-clause-sound : goal.returns-clause-sound
-returns-clause-sound g c = λ yes.
+pub has_zero_table-requires : goal.has_zero_table-requires
+has_zero_table-requires g c = placed_after c.requires c.in_ok-read_tables.ensures.same.store
+
+pub has_bits-requires : goal.has_bits-requires
+has_bits-requires g c = placed_after c.requires (unchanged_joined c.in_ok-read_tables.ensures.same c.in_ok-zero.ensures.same).store
+
+pub has_bits-requires-2 : goal.has_bits-requires-2
+has_bits-requires-2 g c =
+    placed_after c.requires (unchanged_joined c.in_ok-read_tables.ensures.same (unchanged_joined c.in_ok-zero.ensures.same c.in_ok-inodes.ensures.same)).store
+
+pub returns : goal.returns
+returns g c = λ yes.
     let p = c.args.geometry in
-    let t1 = g.S.Sectors.state c.has_zero_table.new.s in
-    let t2 = g.S.Sectors.state c.has_bits.new.s in
-    let t3 = g.S.Sectors.state c.has_bits-2.new.s in
+    let t = g.S.Sectors.state c.has_bits-2.new.s in
+    let read = c.in_ok-read_tables.ensures in
     let first = c.in_ok-zero.ensures in
     let second = c.in_ok-inodes.ensures in
     let third = c.in_ok-blocks.ensures in
-    let all = unchanged_joined (unchanged_joined first.same second.same) third.same in
     let last = unchanged_joined second.same third.same in
-    blank_is_sound p t3 c.requires.geometry (omega (arith, c.requires.disk, all.store.reads.narrowed.size)) (omega (arith, c.requires.header, ap log_end all.store.header))
-    (subst (HasWholeTables p) (map_unchanged all) (first.tables c.if-not-zero.false))
-    (subst (λ (image : SectorMap). (n : ℕ) → n < p.inodes → image (p.table + n / 4) ≡ zeros 512) (map_unchanged all)
-    (zero_there p _ c.requires.geometry (first.zero c.if-not-zero.false)))
-    (subst (λ (image : SectorMap). (n : ℕ) → n < inode_map_bits p → IsTrue (bit image p.inode_bitmap n) ↔ (IsNumber p Inodes n → ⊥)) (map_unchanged last) (second.set c.if-not-inodes.false))
-    (subst (λ (image : SectorMap). (n : ℕ) → n < map_bits p → IsTrue (bit image p.block_bitmap n) ↔ (IsNumber p Blocks n → ⊥)) (map_unchanged third.same) (third.set c.if-not-blocks.false))
-
-pub returns-clause-clear : goal.returns-clause-clear
-returns-clause-clear g c = λ yes n lt clear.
-    let p = c.args.geometry in
-    let first = c.in_ok-zero.ensures in
-    let all = unchanged_joined (unchanged_joined first.same c.in_ok-inodes.ensures.same) c.in_ok-blocks.ensures.same in
-    let zero = subst (λ (image : SectorMap). (n : ℕ) → n < p.inodes → image (p.table + n / 4) ≡ zeros 512) (map_unchanged all)
+    let later = unchanged_joined first.same last in
+    let placed = placed_after c.requires (unchanged_joined read.same later).store in
+    let zero = subst (λ (image : SectorMap). (n : ℕ) → n < p.inodes → image (p.table + n / 4) ≡ zeros 512) (map_unchanged later)
     (zero_there p _ c.requires.geometry (first.zero c.if-not-zero.false)) in
-    (free_where_zeros p (g.S.Sectors.state c.has_bits-2.new.s).sectors n (zero n lt)).0
-
-pub returns-clause-spare : goal.returns-clause-spare
-returns-clause-spare g c = λ yes.
-    omega (
-      arith,
-      leb-true _ _ yes,
-      lacking_at_most (g.S.Sectors.state c.has_bits-2.new.s) (bitmaps c.args.geometry),
-      length-range_with_len c.args.geometry.inode_bitmap (c.args.geometry.table - c.args.geometry.inode_bitmap),
-      c.room.ensures,
-    )
+    record {
+      sound = blank_is_sound p t placed (subst (HasWholeTables p) (map_unchanged later) read.tables) zero
+          (subst (λ (image : SectorMap). (n : ℕ) → n < inode_map_bits p → IsTrue (bit image p.inode_bitmap n) ↔ (IsNumber p Inodes n → ⊥)) (map_unchanged last)
+          (second.set c.if-not-inodes.false))
+          (subst (λ (image : SectorMap). (n : ℕ) → n < map_bits p → IsTrue (bit image p.block_bitmap n) ↔ (IsNumber p Blocks n → ⊥)) (map_unchanged third.same)
+          (third.set c.if-not-blocks.false));
+      clear = λ n lt bit_clear. (free_where_zeros p t.sectors n (zero n lt)).0;
+      spare = has_spare p 12 t (omega (arith, leb-true _ _ yes, c.room.ensures));
+    }

@@ -1,5 +1,0 @@
-use Rattle.sector_txn.specs.Sectors.{SameStore}
-use Rattle.storage_tests.proofs.bitmaps.tables.put_all_but.Given as goal
-
-abbrev pub invariant-loop-k : goal.invariant-loop-k
-invariant-loop-k g l = SameStore (g.S.Sectors.state l.initial.s) (g.S.Sectors.state l.s)

@@ -1,0 +1,7 @@
+//! The tests by their subjects.
+
+mod bitmaps;
+mod blocks;
+mod directories;
+mod inodes;
+mod maps;
