@@ -2,31 +2,6 @@
 
 use fs_layout::Commit;
 
-// Whether a commit with these targets is valid on a disk of so many sectors, where the header has one: the two log areas end at
-// sector 512.
-static COMMITS: [(&[u32], u32, bool); 5] = [
-    (&[], 1024, true),
-    (&[512], 513, true),
-    (&[512], 512, false),
-    (&[511], 1024, false),
-    (&[1023, 512], 1024, true),
-];
-
-fn is_valid(targets: &[u32], sectors: u32) -> Option<bool> {
-    if 126 < targets.len() {
-        return None;
-    }
-    Some(Commit::new(targets).is_valid_with(1, sectors))
-}
-
-#[test]
-fn a_header_pushes_the_first_target_back(rt: HostRuntime) {
-    for &(targets, sectors, valid) in &COMMITS {
-        let found = is_valid(targets, sectors);
-        assert!(rt; found == Some(valid), "{targets:?} on {sectors} sectors");
-    }
-}
-
 // The sectors 300 to 499.
 fn many_targets() -> [u32; 200] {
     let mut targets = [0; 200];

@@ -297,7 +297,10 @@ fn structures_are_as_the_format_says(rt: HostRuntime) {
 
 // What is read of a part's bytes where some of them are changed: the first that is, the one past the last, and their
 // new value.
-static READS: [(Part, &[u8], usize, usize, u8, Option<LayoutFault>); 109] = [
+type Read = (Part, &'static [u8], usize, usize, u8, Option<LayoutFault>);
+
+// Of superblocks.
+static SUPER_READS: [Read; 20] = [
     (Part::Super, SUPER_BYTES, 0, 0, 0, None),
     (Part::Super, SUPER_BYTES, 0, 1, 0x48, Some(BadMagic)),
     (Part::Super, SUPER_BYTES, 3, 4, 0, Some(BadMagic)),
@@ -325,6 +328,10 @@ static READS: [(Part, &[u8], usize, usize, u8, Option<LayoutFault>); 109] = [
         1,
         Some(NotZero),
     ),
+];
+
+// Of commit sectors.
+static COMMIT_READS: [Read; 9] = [
     (Part::Commit, IDLE_BYTES, 0, 0, 0, None),
     (Part::Commit, COMMIT_BYTES, 0, 0, 0, None),
     (Part::Commit, COMMIT_BYTES, 0, 1, 0x48, Some(BadMagic)),
@@ -334,6 +341,10 @@ static READS: [(Part, &[u8], usize, usize, u8, Option<LayoutFault>); 109] = [
     (Part::Commit, COMMIT_BYTES, 4, 5, 1, Some(NotZero)),
     (Part::Commit, COMMIT_BYTES, 16, 17, 1, Some(NotZero)),
     (Part::Commit, COMMIT_BYTES, 511, 512, 1, Some(NotZero)),
+];
+
+// Of inodes of files.
+static FILE_READS: [Read; 25] = [
     (Part::Inode, FILE_BYTES, 0, 0, 0, None),
     (Part::Inode, LARGEST_FILE, 0, 0, 0, None),
     (Part::Inode, LARGEST_FILE, 0, 1, 4, Some(BadKind)),
@@ -366,6 +377,10 @@ static READS: [(Part, &[u8], usize, usize, u8, Option<LayoutFault>); 109] = [
         1,
         Some(BadNumber),
     ),
+];
+
+// Of those of directories and links, and of free ones.
+static INODE_READS: [Read; 25] = [
     (Part::Inode, DIRECTORY, 0, 0, 0, None),
     (Part::Inode, DIRECTORY, 3, 4, 0x0f, Some(BadNumber)),
     (Part::Inode, DIRECTORY, 16, 17, 0x81, Some(BadNumber)),
@@ -405,6 +420,10 @@ static READS: [(Part, &[u8], usize, usize, u8, Option<LayoutFault>); 109] = [
     (Part::Inode, &[], 16, 17, 1, Some(NotZero)),
     (Part::Inode, &[], 127, 128, 1, Some(NotZero)),
     (Part::AnyInode, &[], 96, 97, 1, Some(NotZero)),
+];
+
+// Of slots.
+static SLOT_READS: [Read; 21] = [
     (Part::Slot, SLOT_BYTES, 0, 0, 0, None),
     (Part::Slot, SLOT_BYTES, 4, 5, 0, Some(BadNumber)),
     (Part::Slot, SLOT_BYTES, 4, 5, 121, Some(BadNumber)),
@@ -433,6 +452,10 @@ static READS: [(Part, &[u8], usize, usize, u8, Option<LayoutFault>); 109] = [
     ),
     (Part::NextLongSlot, SLOT_BYTES, 5, 6, 1, Some(NotZero)),
     (Part::NextLongSlot, SLOT_BYTES, 255, 256, 1, Some(NotZero)),
+];
+
+// Of sectors of ACLs.
+static ACL_READS: [Read; 9] = [
     (Part::AclSector, ACL_BYTES, 0, 0, 0, None),
     (Part::AclSector, ACL_BYTES, 0, 1, 33, Some(BadNumber)),
     (Part::AclSector, ACL_BYTES, 1, 2, 1, Some(BadNumber)),
@@ -475,12 +498,21 @@ fn fault_of(part: Part, sector: &[u8; 512]) -> Option<LayoutFault> {
 
 #[test]
 fn wrong_bytes_are_refused(rt: HostRuntime) {
-    for &(part, bytes, first, end, byte, fault) in &READS {
-        let found = fault_with(part, bytes, first, end, byte);
-        assert!(rt;
-            found == fault,
-            "{part:?} {bytes:?}, {byte} from {first} to {end}"
-        );
+    for reads in [
+        SUPER_READS.as_slice(),
+        COMMIT_READS.as_slice(),
+        FILE_READS.as_slice(),
+        INODE_READS.as_slice(),
+        SLOT_READS.as_slice(),
+        ACL_READS.as_slice(),
+    ] {
+        for &(part, bytes, first, end, byte, fault) in reads {
+            let found = fault_with(part, bytes, first, end, byte);
+            assert!(rt;
+                found == fault,
+                "{part:?} {bytes:?}, {byte} from {first} to {end}"
+            );
+        }
     }
 }
 
@@ -672,28 +704,39 @@ fn geometries_are_as_the_format_says(rt: HostRuntime) {
     }
 }
 
-// Whether a commit with these targets is valid for a disk of so many sectors.
-static COMMITS: [(&[u32], u32, bool); 7] = [
-    (&[], 1024, true),
-    (&[128], 129, true),
-    (&[128], 128, false),
-    (&[127], 1024, false),
-    (&[1023, 128], 1024, true),
-    (&[128, 1024], 1024, false),
-    (&[128, 200, 128], 1024, false),
+// Whether a commit with these targets is valid for a disk with a header sector or without one, and of so many sectors. With one the
+// log areas end at sector 512.
+static COMMITS: [(bool, &[u32], u32, bool); 12] = [
+    (false, &[], 1024, true),
+    (false, &[128], 129, true),
+    (false, &[128], 128, false),
+    (false, &[127], 1024, false),
+    (false, &[1023, 128], 1024, true),
+    (false, &[128, 1024], 1024, false),
+    (false, &[128, 200, 128], 1024, false),
+    (true, &[], 1024, true),
+    (true, &[512], 513, true),
+    (true, &[512], 512, false),
+    (true, &[511], 1024, false),
+    (true, &[1023, 512], 1024, true),
 ];
 
-fn is_valid(targets: &[u32], sectors: u32) -> Option<bool> {
+fn is_valid(header: bool, targets: &[u32], sectors: u32) -> Option<bool> {
     if 126 < targets.len() {
         return None;
     }
-    Some(Commit::new(targets).is_valid_for(sectors))
+    let commit = Commit::new(targets);
+    Some(if header {
+        commit.is_valid_with(1, sectors)
+    } else {
+        commit.is_valid_for(sectors)
+    })
 }
 
 #[test]
 fn commits_are_valid_for_a_disk(rt: HostRuntime) {
-    for &(targets, sectors, valid) in &COMMITS {
-        let found = is_valid(targets, sectors);
+    for &(header, targets, sectors, valid) in &COMMITS {
+        let found = is_valid(header, targets, sectors);
         assert!(rt; found == Some(valid), "{targets:?} on {sectors} sectors");
     }
 }
