@@ -2,14 +2,4 @@
 #![tactic(auto)]
 
 #[cfg(test)]
-mod cutting;
-#[cfg(test)]
-mod listings;
-#[cfg(test)]
-mod serving;
-#[cfg(test)]
-mod state;
-#[cfg(test)]
-mod streams;
-#[cfg(test)]
-mod times;
+mod tests;

@@ -1,10 +1,7 @@
-//! What no clause says: which answers follow which changes, and where the limits are.
-use fs_cred::{Cred, CredFault};
-use fs_model::{Call, FileType, Listing, Name};
+//! What no clause says: which answers follow which changes.
+use fs_model::{Call, FileType, Name};
 use fuse_protocol::{Operation, Time, parse_request};
-use fuse_state::{
-    Borrower, Dentry, Keeping, Server, Settings, Times, descriptor_of, handle_of, owner_of,
-};
+use fuse_state::{Borrower, Dentry, Keeping, Server, Settings, Times, handle_of};
 use std::alloc::{AllocError, Global};
 use std::test::Fail;
 
@@ -56,11 +53,11 @@ fn at(seconds: u64) -> Time {
     }
 }
 
-fn number(found: Option<u32>) -> u64 {
+pub(super) fn number(found: Option<u32>) -> u64 {
     u64::from(found.unwrap_or(0))
 }
 
-fn started(alloc: Global) -> Result<Server, AllocError> {
+pub(super) fn started(alloc: Global) -> Result<Server, AllocError> {
     let settings = Settings {
         max_write: 4096,
         posix_acl: true,
@@ -273,7 +270,8 @@ fn answered(server: &mut Server, alloc: Global, step: Step) -> Result<u64, Alloc
     }
 }
 
-const ROWS: [(Step, u64); 99] = [
+// What is made and linked.
+static MADE: [(Step, u64); 24] = [
     // The root is node 1. What the kernel was never told of is stale.
     (Step::Node(1), 1),
     (Step::Number(1), 1),
@@ -301,6 +299,10 @@ const ROWS: [(Step, u64); 99] = [
     (Step::Mtime(5), 10),
     (Step::Ctime(5), 20),
     (Step::Mtime(1), 20),
+];
+
+// Then: what is removed and moved.
+static REMOVED: [(Step, u64); 23] = [
     // A name that is removed is gone, and the object is known by the other.
     (Step::Removed(30, (1, b'b')), 0),
     (Step::Named((1, b'b')), 0),
@@ -326,6 +328,10 @@ const ROWS: [(Step, u64); 99] = [
     (Step::Mtime(5), 10),
     (Step::Mtime(1), 50),
     (Step::Mtime(7), 50),
+];
+
+// Then: what is found, and times.
+static FOUND: [(Step, u64); 22] = [
     // The number of an object that has no name is given again.
     (Step::Number(4_294_967_302), 6),
     (Step::Made(60, (1, b'a'), 6), 0),
@@ -352,6 +358,10 @@ const ROWS: [(Step, u64); 99] = [
     (Step::TimesSet(5, 8), 0),
     (Step::Mtime(8), 5),
     (Step::Ctime(8), 80),
+];
+
+// Then: what is opened, and what is found once more.
+static OPENED: [(Step, u64); 30] = [
     // What is opened is new, has lost its bytes, or is as it was.
     (Step::Opened(90, (7, b'g'), 10, true, false), 0),
     (Step::Node(10), 4_294_967_306),
@@ -403,7 +413,8 @@ const CUT: &[u8] =
     b"\x40\0\0\0\x2a\0\0\0\x6a\0\0\0\0\0\0\0\0\0\0\0\0\0\0\0\0\0\0\0\0\0\0\0\0\0\0\0\0\0\0\0\x02\0\0\0\0\0\0\0\
       \x09\0\0\0\0\0\0\0\x01\0\0\0\0\0\0\0";
 
-const FORGETS: [(Step, u64); 47] = [
+// What is forgotten.
+static FORGOTTEN: [(Step, u64); 27] = [
     // What was told twice and is forgotten once is known; a body that is too short forgets nothing.
     (Step::Found((1, b'a'), 5), 0),
     (Step::Found((1, b'a'), 5), 0),
@@ -435,6 +446,10 @@ const FORGETS: [(Step, u64); 47] = [
     (Step::Named((5, b'b')), 0),
     (Step::Named((1, b'c')), 0),
     (Step::Mtime(6), 70),
+];
+
+// Then: stale nodes, and several at once.
+static FORGOTTEN_AGAIN: [(Step, u64); 20] = [
     // A node that is stale is no other.
     (Step::Made(80, (1, b'd'), 7), 0),
     (Step::Forgotten(7, 9), 0),
@@ -460,328 +475,43 @@ const FORGETS: [(Step, u64); 47] = [
     (Step::Number(1), 1),
 ];
 
-// The first row that is answered otherwise, and how; one behind the last if there is none.
+// The first row that is answered otherwise, and how.
 fn other_answer(
     server: &mut Server,
     alloc: Global,
     rows: &[(Step, u64)],
-) -> Result<(usize, u64), AllocError> {
+) -> Result<Option<(usize, u64)>, AllocError> {
     for (i, (step, wanted)) in rows.iter().enumerate() {
         let answer = answered(server, alloc, *step)?;
         if answer != *wanted {
-            return Ok((i, answer));
+            return Ok(Some((i, answer)));
         }
     }
-    Ok((rows.len(), 0))
+    Ok(None)
 }
 
-// The first row that a new server answers otherwise, and how; one behind the last if there is none.
-fn other_answer_at_start(alloc: Global, rows: &[(Step, u64)]) -> Result<(usize, u64), AllocError> {
+// The first row of each part that a new server answers otherwise, one part after another.
+fn other_changes(alloc: Global) -> Result<[Option<(usize, u64)>; 4], AllocError> {
     let mut server = started(alloc)?;
-    other_answer(&mut server, alloc, rows)
+    Ok([
+        other_answer(&mut server, alloc, &MADE)?,
+        other_answer(&mut server, alloc, &REMOVED)?,
+        other_answer(&mut server, alloc, &FOUND)?,
+        other_answer(&mut server, alloc, &OPENED)?,
+    ])
+}
+
+fn other_forgets(alloc: Global) -> Result<[Option<(usize, u64)>; 2], AllocError> {
+    let mut server = started(alloc)?;
+    Ok([
+        other_answer(&mut server, alloc, &FORGOTTEN)?,
+        other_answer(&mut server, alloc, &FORGOTTEN_AGAIN)?,
+    ])
 }
 
 #[test]
 fn answers_follow_changes(rt: HostRuntime) -> Result<(), Fail> {
-    let rows: &[(Step, u64)] = &ROWS;
-    let (row, answer) = other_answer_at_start(rt.alloc(), rows)?;
-    assert!(rt; row == rows.len(), "row {row}: {answer}");
-    Ok(())
-}
-
-#[test]
-fn forgotten_nodes_go(rt: HostRuntime) -> Result<(), Fail> {
-    let rows: &[(Step, u64)] = &FORGETS;
-    let (row, answer) = other_answer_at_start(rt.alloc(), rows)?;
-    assert!(rt; row == rows.len(), "row {row}: {answer}");
-    Ok(())
-}
-
-// What happens to processes and handles, or what is asked. Processes go by their numbers, and callers by their users.
-#[derive(Clone, Copy)]
-enum Use {
-    Begun(u32, u32),
-    Ended(u32),
-    // A process opens an inode at so many descriptors, from the first on.
-    Opens(u32, u32, u32),
-    Closes(u32, u32),
-    // So many processes of a user begin, from a number on, and each opens inode 9.
-    Crowd(u32, u32, u32),
-    First(u32),
-    PartlyUsed(u32),
-    Idle(u32),
-    NextIdle(u32),
-    MayTake(u32),
-    Object(u32, u32),
-    HandleFor(u32),
-    // So many times a user opens a directory: the last handle.
-    OpensDirectory(u32, u32, u32),
-    ListsDirectory(u64),
-    ClosesDirectory(u64),
-    DirectoryAt(u64),
-    // Whose directory it is.
-    OwnerAt(u64),
-    MayOpen(u32),
-    Looks(u32),
-    ServerProcess,
-    Ends,
-    IsEnded,
-}
-
-fn begun(server: &mut Server, alloc: Global, pid: u32, uid: u32) -> Result<u64, CredFault> {
-    server.prepare()?;
-    server.add_process(pid as usize, Cred::new(alloc, uid, 100, &[200, 300])?);
-    Ok(0)
-}
-
-fn opens(server: &mut Server, pid: u32, count: u32, ino: u32) -> Result<u64, CredFault> {
-    for fd in 0..count {
-        server.prepare()?;
-        server.add_handle(handle_of(pid as usize, fd as usize), ino);
-    }
-    Ok(0)
-}
-
-fn closes(server: &mut Server, pid: u32, fd: u32) -> Result<u64, CredFault> {
-    server.remove_handle(handle_of(pid as usize, fd as usize));
-    Ok(0)
-}
-
-fn crowd(
-    server: &mut Server,
-    alloc: Global,
-    uid: u32,
-    first: u32,
-    count: u32,
-) -> Result<u64, CredFault> {
-    for i in 0..count {
-        let pid = first.wrapping_add(i);
-        let _begun = begun(server, alloc, pid, uid)?;
-        let _opened = opens(server, pid, 1, 9)?;
-    }
-    Ok(0)
-}
-
-fn process(pid: Option<usize>) -> u64 {
-    match pid {
-        Some(pid) => pid as u64,
-        None => 0,
-    }
-}
-
-fn asked(server: &Server, alloc: Global, step: Use, uid: u32) -> Result<u64, CredFault> {
-    let cred = Cred::new(alloc, uid, 100, &[200, 300])?;
-    Ok(match step {
-        Use::First(_) => process(server.first_process(&cred)),
-        Use::PartlyUsed(_) => process(server.partly_used(&cred)),
-        _ => process(server.idle_process(&cred)),
-    })
-}
-
-fn opens_directory(server: &mut Server, uid: u32, count: u32, ino: u32) -> Result<u64, CredFault> {
-    let mut handle = 0;
-    for _ in 0..count {
-        server.prepare()?;
-        handle = server.next_directory();
-        server.add_directory(uid, ino);
-    }
-    Ok(handle)
-}
-
-fn lists_directory(server: &mut Server, alloc: Global, handle: u64) -> Result<u64, CredFault> {
-    server.prepare()?;
-    server.set_listing(handle, Listing::new(Vec::new(alloc)));
-    Ok(0)
-}
-
-fn owner_at(server: &Server, handle: u64) -> u64 {
-    match server.directory_of(handle) {
-        Some(directory) => u64::from(directory.owner),
-        None => 0,
-    }
-}
-
-fn closes_directory(server: &mut Server, handle: u64) -> Result<u64, CredFault> {
-    server.remove_directory(handle);
-    Ok(0)
-}
-
-fn directory_at(server: &Server, handle: u64) -> u64 {
-    match server.directory_of(handle) {
-        Some(directory) => u64::from(directory.ino),
-        None => 0,
-    }
-}
-
-fn ended(server: &mut Server, pid: u32) -> Result<u64, CredFault> {
-    server.remove_process(pid as usize);
-    Ok(0)
-}
-
-fn looks(server: &mut Server, pid: u32) -> Result<u64, CredFault> {
-    server.set_server_process(pid as usize);
-    Ok(0)
-}
-
-fn ends(server: &mut Server) -> Result<u64, CredFault> {
-    server.end();
-    Ok(0)
-}
-
-fn used(server: &mut Server, alloc: Global, step: Use) -> Result<u64, CredFault> {
-    match step {
-        Use::Begun(pid, uid) => begun(server, alloc, pid, uid),
-        Use::Ended(pid) => ended(server, pid),
-        Use::Opens(pid, count, ino) => opens(server, pid, count, ino),
-        Use::Closes(pid, fd) => closes(server, pid, fd),
-        Use::Crowd(uid, first, count) => crowd(server, alloc, uid, first, count),
-        Use::First(uid) => asked(server, alloc, step, uid),
-        Use::PartlyUsed(uid) => asked(server, alloc, step, uid),
-        Use::Idle(uid) => asked(server, alloc, step, uid),
-        Use::MayTake(uid) => Ok(u64::from(server.may_take_process(uid))),
-        Use::NextIdle(least) => Ok(process(server.next_idle(least as usize))),
-        Use::Object(pid, fd) => Ok(number(server.object_of(handle_of(pid as usize, fd as usize)))),
-        Use::HandleFor(ino) => Ok(server.handle_for(ino).unwrap_or(0)),
-        Use::OpensDirectory(uid, count, ino) => opens_directory(server, uid, count, ino),
-        Use::ListsDirectory(handle) => lists_directory(server, alloc, handle),
-        Use::ClosesDirectory(handle) => closes_directory(server, handle),
-        Use::DirectoryAt(handle) => Ok(directory_at(server, handle)),
-        Use::OwnerAt(handle) => Ok(owner_at(server, handle)),
-        Use::MayOpen(uid) => Ok(u64::from(server.may_open_directory(uid))),
-        Use::Looks(pid) => looks(server, pid),
-        Use::ServerProcess => Ok(process(server.server_process())),
-        Use::Ends => ends(server),
-        Use::IsEnded => Ok(u64::from(server.is_ended())),
-    }
-}
-
-const USES: [(Use, u64); 78] = [
-    (Use::ServerProcess, 0),
-    (Use::Looks(1), 0),
-    (Use::ServerProcess, 1),
-    (Use::First(1000), 0),
-    (Use::Begun(2, 1000), 0),
-    (Use::Begun(4, 1000), 0),
-    (Use::Begun(3, 1001), 0),
-    (Use::First(1000), 2),
-    (Use::First(1001), 3),
-    (Use::First(1002), 0),
-    (Use::Idle(1000), 2),
-    (Use::PartlyUsed(1000), 0),
-    // A process with 1 to 31 descriptors has room.
-    (Use::Opens(2, 1, 5), 0),
-    (Use::PartlyUsed(1000), 2),
-    (Use::Idle(1000), 4),
-    (Use::Opens(2, 31, 5), 0),
-    (Use::PartlyUsed(1000), 2),
-    (Use::Opens(2, 32, 5), 0),
-    (Use::PartlyUsed(1000), 0),
-    (Use::First(1000), 2),
-    // Two processes have descriptors of one number.
-    (Use::Opens(3, 1, 6), 0),
-    (Use::Object(2, 0), 5),
-    (Use::Object(3, 0), 6),
-    (Use::HandleFor(5), 64),
-    (Use::HandleFor(6), 96),
-    (Use::HandleFor(7), 0),
-    (Use::Closes(3, 0), 0),
-    (Use::Object(3, 0), 0),
-    (Use::Object(2, 0), 5),
-    // Processes that hold nothing may go.
-    (Use::NextIdle(0), 3),
-    (Use::NextIdle(4), 4),
-    (Use::NextIdle(5), 0),
-    (Use::Ended(3), 0),
-    (Use::NextIdle(0), 4),
-    (Use::First(1001), 0),
-    // 32 processes of one user may hold descriptors, and 44 of all, but for user 0 and the first ones of others.
-    (Use::Crowd(1000, 5, 30), 0),
-    (Use::MayTake(1000), 1),
-    (Use::Crowd(1000, 35, 1), 0),
-    (Use::MayTake(1000), 0),
-    (Use::MayTake(1001), 1),
-    (Use::MayTake(0), 1),
-    (Use::Crowd(1001, 36, 11), 0),
-    (Use::MayTake(1001), 1),
-    (Use::Crowd(1001, 47, 1), 0),
-    (Use::MayTake(1001), 0),
-    (Use::MayTake(1002), 1),
-    (Use::MayTake(0), 1),
-    (Use::Crowd(0, 48, 4), 0),
-    (Use::MayTake(0), 0),
-    (Use::MayTake(1002), 1),
-    (Use::Closes(47, 0), 0),
-    (Use::MayTake(1001), 0),
-    // Handles of directories lie behind those of files; 128 of one user may be open, and 200 of all, but for the same.
-    (Use::OpensDirectory(1000, 1, 5), 4_294_967_296),
-    (Use::OpensDirectory(1001, 1, 6), 4_294_967_297),
-    (Use::DirectoryAt(4_294_967_296), 5),
-    (Use::DirectoryAt(4_294_967_297), 6),
-    (Use::ListsDirectory(4_294_967_297), 0),
-    (Use::DirectoryAt(4_294_967_297), 6),
-    (Use::OwnerAt(4_294_967_297), 1001),
-    (Use::ClosesDirectory(4_294_967_296), 0),
-    (Use::DirectoryAt(4_294_967_296), 0),
-    (Use::ListsDirectory(4_294_967_296), 0),
-    (Use::DirectoryAt(4_294_967_296), 0),
-    (Use::OpensDirectory(1001, 126, 8), 4_294_967_423),
-    (Use::MayOpen(1001), 1),
-    (Use::OpensDirectory(1001, 1, 8), 4_294_967_424),
-    (Use::MayOpen(1001), 0),
-    (Use::MayOpen(1000), 1),
-    (Use::OpensDirectory(1000, 72, 8), 4_294_967_496),
-    (Use::MayOpen(1000), 0),
-    (Use::MayOpen(1002), 1),
-    (Use::MayOpen(0), 1),
-    (Use::OpensDirectory(0, 16, 8), 4_294_967_512),
-    (Use::MayOpen(0), 0),
-    (Use::MayOpen(1002), 1),
-    (Use::IsEnded, 0),
-    (Use::Ends, 0),
-    (Use::IsEnded, 1),
-];
-
-// Whether handles are numbered one by one, and lead back to their processes and descriptors.
-fn handles_are_apart() -> bool {
-    let mut same = true;
-    let mut count: u64 = 0;
-    for pid in 0..64 {
-        for fd in 0..32 {
-            let handle = handle_of(pid, fd);
-            let seen = (handle, owner_of(handle), descriptor_of(handle));
-            same = seen == (count, pid, fd) && same;
-            count = count.wrapping_add(1);
-        }
-    }
-    same
-}
-
-// The first row that is answered otherwise, and how; where there is none, one behind the last, and the most bytes of a write.
-fn other_use(
-    server: &mut Server,
-    alloc: Global,
-    rows: &[(Use, u64)],
-) -> Result<(usize, u64, u32), CredFault> {
-    for (i, (step, wanted)) in rows.iter().enumerate() {
-        let answer = used(server, alloc, *step)?;
-        if answer != *wanted {
-            return Ok((i, answer, 0));
-        }
-    }
-    Ok((rows.len(), 0, server.settings().max_write))
-}
-
-// The first row that a new server answers otherwise, and how.
-fn other_use_at_start(alloc: Global, rows: &[(Use, u64)]) -> Result<(usize, u64, u32), CredFault> {
-    let mut server = started(alloc)?;
-    other_use(&mut server, alloc, rows)
-}
-
-#[test]
-fn processes_and_handles(rt: HostRuntime) -> Result<(), Fail> {
-    let rows: &[(Use, u64)] = &USES;
-    let (row, answer, max_write) = other_use_at_start(rt.alloc(), rows)?;
-    assert!(rt; row == rows.len(), "row {row}: {answer}");
-    assert!(rt; handles_are_apart() && max_write == 4096);
+    let seen = (other_changes(rt.alloc())?, other_forgets(rt.alloc())?);
+    assert!(rt; seen == ([None; 4], [None; 2]), "{seen:?}");
     Ok(())
 }

@@ -14,7 +14,7 @@ use Rattle.fuse_plans.specs.Works.{give, fail, kept, ◌>>=◌}
 use Rattle.fuse_plans.specs.Callers.{the_number}
 use Rattle.fuse_plans.specs.Flags.{mode_in}
 use Rattle.fuse_plans.specs.Nobody.{needs_caller, reads_alone, is_owner, or_user, who_counts}
-use Rattle.server_tests.proofs.serving.LackingPerformer.who_counts.Goals as goal
+use Rattle.server_tests.proofs.tests.serving.LackingPerformer.who_counts.Goals as goal
 
 -- what it keeps
 abbrev lacking : Server

@@ -1,15 +1,15 @@
 //! Times at a machine that is played: what a server whose disk keeps them tells it, asks it and shows.
 ghost use Rattle.std.specs.Prelude.{⊤};
 
+use crate::tests::sessions::{asked, begun};
 use bitflags::Flags;
 use fs_cred::{Cred, CredFault, Errno, Refusal};
 use fs_model::{Call, Event, FileType, Reply, Stamps, Status};
-use fuse_plans::{Asked, ReplyBody, Response};
-use fuse_protocol::{AttrChanges, InitFlags, NewTime, Offer, OpenFlags, Operation, Time};
-use fuse_sessions::Session;
-use fuse_state::{Keeping, Settings, Times};
+use fuse_plans::{ReplyBody, Response};
+use fuse_protocol::{AttrChanges, NewTime, OpenFlags, Operation, Time};
+use fuse_state::Times;
 use fuse_steps::Machine;
-use std::alloc::{AllocError, Global};
+use std::alloc::Global;
 use std::mem;
 use std::test::Fail;
 
@@ -153,47 +153,6 @@ fn answer_of(response: Response) -> Answer {
     }
 }
 
-// The request of user 0 at a time.
-fn performed(
-    session: &mut Session<Played>,
-    alloc: Global,
-    operation: &Operation<'_>,
-) -> Result<Response, CredFault> {
-    let asked = Asked {
-        node: 1,
-        needs_nobody: false,
-        cred: Some(Cred::new(alloc, 0, 0, &[])?),
-        now: Time {
-            seconds: 9,
-            nanoseconds: 5,
-        },
-    };
-    Ok(session.perform(asked, None, operation)?)
-}
-
-pub(crate) fn settings(keeps_times: bool) -> Settings {
-    Settings {
-        max_write: 4096,
-        posix_acl: false,
-        keeping: Keeping::nothing(),
-        sectors: 878,
-        inodes: 64,
-        max_name: 248,
-        keeps_times,
-        start: Time {
-            seconds: 3,
-            nanoseconds: 4,
-        },
-    }
-}
-
-pub(crate) const OFFER: Offer = Offer {
-    major: 7,
-    minor: 45,
-    max_readahead: 0,
-    flags: InitFlags::POSIX_ACL,
-};
-
 // Whether the disk keeps times, the inode that the machine shows, and the times that it has.
 type Disk = (bool, u32, Option<Stamps>);
 
@@ -206,11 +165,9 @@ fn answered(alloc: Global, disk: Disk, ask: Ask) -> Result<(Answer, Heard), Cred
         processes: 0,
         heard: (None, 0, None),
     };
-    let Ok(mut session) = Session::new(alloc, machine, settings(keeps_times)) else {
-        return Err(CredFault::from(AllocError));
-    };
-    mem::drop(performed(&mut session, alloc, &Operation::Init(OFFER))?);
-    let response = performed(&mut session, alloc, &operation_of(ask))?;
+    let mut session = begun(alloc, machine, keeps_times)?;
+    let user = asked(1, false, Cred::new(alloc, 0, 0, &[])?);
+    let response = session.perform(user, None, &operation_of(ask))?;
     let machine = session.into_machine();
     Ok((answer_of(response), machine.heard))
 }

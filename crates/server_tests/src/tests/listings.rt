@@ -1,11 +1,11 @@
 //! READDIRPLUS at a machine that is played: which nodes are told, and when they are forgotten.
 ghost use Rattle.std.specs.Prelude.{⊤};
 
-use crate::times::{OFFER, settings};
+use crate::tests::sessions::{asked, begun};
 use fs_cred::{Cred, CredFault};
 use fs_model::{Call, Event, FileType, Listing, Name, Named, Reply, Status};
-use fuse_plans::{Asked, ReplyBody, Response};
-use fuse_protocol::{Extent, Operation, Time};
+use fuse_plans::{ReplyBody, Response};
+use fuse_protocol::{Extent, Operation};
 use fuse_sessions::Session;
 use fuse_steps::Machine;
 use std::alloc::{AllocError, Global};
@@ -135,28 +135,8 @@ fn performed(
     node: u64,
     operation: &Operation<'_>,
 ) -> Result<Answer, CredFault> {
-    let asked = Asked {
-        node,
-        needs_nobody: true,
-        cred: Some(Cred::new(alloc, 0, 0, &[])?),
-        now: Time {
-            seconds: 9,
-            nanoseconds: 5,
-        },
-    };
-    Ok(answer_of(session.perform(asked, None, operation)?))
-}
-
-fn begun(alloc: Global) -> Result<Session<Played>, CredFault> {
-    let machine = Played {
-        alloc,
-        processes: 0,
-    };
-    let Ok(mut session) = Session::new(alloc, machine, settings(false)) else {
-        return Err(CredFault::from(AllocError));
-    };
-    let _agreed = performed(&mut session, alloc, 1, &Operation::Init(OFFER))?;
-    Ok(session)
+    let user = asked(node, true, Cred::new(alloc, 0, 0, &[])?);
+    Ok(answer_of(session.perform(user, None, operation)?))
 }
 
 const STALE: Answer = (116, 0, 0);
@@ -192,23 +172,29 @@ const ROWS: [(Step, Answer); 18] = [
     (Step::Shown(5), STALE),
 ];
 
-// The first row that is answered otherwise, and how; one behind the last if there is none.
-fn other_answer(alloc: Global, rows: &[(Step, Answer)]) -> Result<(usize, Answer), CredFault> {
-    let mut session = begun(alloc)?;
+// The first row that is answered otherwise, and how.
+fn other_answer(
+    alloc: Global,
+    rows: &[(Step, Answer)],
+) -> Result<Option<(usize, Answer)>, CredFault> {
+    let machine = Played {
+        alloc,
+        processes: 0,
+    };
+    let mut session = begun(alloc, machine, false)?;
     for (i, (step, wanted)) in rows.iter().enumerate() {
         let (node, operation) = asked_by(*step);
         let answer = performed(&mut session, alloc, node, &operation)?;
         if answer != *wanted {
-            return Ok((i, answer));
+            return Ok(Some((i, answer)));
         }
     }
-    Ok((rows.len(), DONE))
+    Ok(None)
 }
 
 #[test]
 fn told_nodes_are_counted(rt: HostRuntime) -> Result<(), Fail> {
-    let rows: &[(Step, Answer)] = &ROWS;
-    let (row, answer) = other_answer(rt.alloc(), rows)?;
-    assert!(rt; row == rows.len(), "row {row}: {answer:?}");
+    let other = other_answer(rt.alloc(), &ROWS)?;
+    assert!(rt; other == None, "{other:?}");
     Ok(())
 }

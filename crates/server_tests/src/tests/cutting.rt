@@ -1,15 +1,14 @@
 //! Files that are to lose their bytes as they are opened, at a machine that is played: what it is asked for, and what it cuts.
 ghost use Rattle.std.specs.Prelude.{⊤};
 
-use crate::times::{OFFER, settings};
+use crate::tests::sessions::{asked, begun};
 use bitflags::Flags as _;
 use fs_cred::{Cred, CredFault, Errno, Refusal};
 use fs_model::{Call, Event, FileType, Flags, Reply, Status};
-use fuse_plans::{Asked, Response};
-use fuse_protocol::{OpenFlags, Operation, Time};
-use fuse_sessions::Session;
+use fuse_plans::Response;
+use fuse_protocol::{OpenFlags, Operation};
 use fuse_steps::Machine;
-use std::alloc::{AllocError, Global};
+use std::alloc::Global;
 use std::mem;
 use std::test::Fail;
 
@@ -83,24 +82,6 @@ const STATUS: Status = Status {
     size: 4,
 };
 
-// The request of user 1000.
-fn performed(
-    session: &mut Session<Played>,
-    alloc: Global,
-    operation: &Operation<'_>,
-) -> Result<Response, CredFault> {
-    let asked = Asked {
-        node: 1,
-        needs_nobody: false,
-        cred: Some(Cred::new(alloc, 1000, 100, &[])?),
-        now: Time {
-            seconds: 9,
-            nanoseconds: 5,
-        },
-    };
-    Ok(session.perform(asked, None, operation)?)
-}
-
 // The number of the error, or 0.
 fn number_of(response: Response) -> u8 {
     match response {
@@ -119,12 +100,10 @@ fn answered(alloc: Global, granted: Ways, flags: u32) -> Result<(u8, Heard), Cre
         processes: 0,
         heard: (None, 0, 0),
     };
-    let Ok(mut session) = Session::new(alloc, machine, settings(false)) else {
-        return Err(CredFault::from(AllocError));
-    };
-    mem::drop(performed(&mut session, alloc, &Operation::Init(OFFER))?);
+    let mut session = begun(alloc, machine, false)?;
+    let user = asked(1, false, Cred::new(alloc, 1000, 100, &[])?);
     let open = Operation::Open(OpenFlags::from_bits_retain(flags));
-    let response = performed(&mut session, alloc, &open)?;
+    let response = session.perform(user, None, &open)?;
     let machine = session.into_machine();
     Ok((number_of(response), machine.heard))
 }
