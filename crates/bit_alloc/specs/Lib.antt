@@ -1,6 +1,5 @@
 pub mod Bitmaps
 pub mod Bits
-pub mod Calls
 pub mod Chains
 pub mod Faults
 pub mod Inodes

@@ -4,9 +4,10 @@ ghost use Rattle.std.specs.Prelude.{◌≡◌, ◌≤◌, ◌<◌, ◌+◌, ◌*
 ghost use Rattle.fs_layout.specs.Geometry.{IsGeometry};
 ghost use Rattle.fs_layout.specs.Images.{bit};
 ghost use Rattle.fs_layout.specs.Header.{log_end};
-ghost use Rattle.bit_alloc.specs.Calls.{HasBitmaps, IsUnchanged, HasCause};
+ghost use Rattle.sector_txn.specs.Sectors.{IsUnchanged};
+ghost use Rattle.sector_disk.specs.Disk.{HasCause};
 ghost use Rattle.bit_alloc.specs.Bits.{clear_below};
-ghost use Rattle.bit_alloc.specs.Bitmaps.{first_sector, bit_count, free_numbers};
+ghost use Rattle.bit_alloc.specs.Bitmaps.{first_sector, bit_count, free_numbers, HasBitmaps};
 
 use crate::Bitmap;
 use crate::bits::{count_clear_up_to, has_bit};

@@ -2,7 +2,11 @@
 
 ghost use Rattle.std.specs.Prelude.{◌≡◌, ◌≤◌, ◌<◌, ℕ, length, get_or, false, IfOk, IfErr, OnOk, OnErr};
 ghost use Rattle.fs_layout.specs.Images.{bit};
-ghost use Rattle.bit_alloc.specs.Calls.{HasBitmaps, bitmaps, HasSpare, SameStore, IsUnchanged, PutsOnly, HasCause, HasCauseOf};
+ghost use Rattle.bit_alloc.specs.Bitmaps.{HasBitmaps};
+ghost use Rattle.bit_alloc.specs.Room.{bitmaps, HasSpare};
+ghost use Rattle.sector_txn.specs.Sectors.{SameStore, IsUnchanged, PutsOnly};
+ghost use Rattle.sector_disk.specs.Disk.{HasCause};
+ghost use Rattle.bit_alloc.specs.Faults.{HasCauseOf};
 ghost use Rattle.bit_alloc.specs.Bitmaps.{first_sector, IsNumber, IsNumberOf, free_numbers, sector_of, IsSectorOf, Marks, TakesNumber, TakesNumbers, GivesNumber, GivesNumbers};
 
 use crate::bits::{clear_listed, set_listed, with_bit};

@@ -6,8 +6,8 @@ ghost use Rattle.fs_layout.specs.declared.inode.TheConstants.{DIRECT_BLOCKS, POI
 ghost use Rattle.fs_layout.specs.Bytes.{SectorMap, splice, le32};
 ghost use Rattle.fs_layout.specs.Header.{log_end};
 ghost use Rattle.fs_layout.specs.Images.{HasPointers, HasPointersAbove, byte_in, byte_at, number_on, place_in_holder, pointer};
-ghost use Rattle.sector_txn.specs.Sectors.{IsPut};
-ghost use Rattle.bit_alloc.specs.Calls.{IsUnchanged, HasCause};
+ghost use Rattle.sector_txn.specs.Sectors.{IsPut, IsUnchanged};
+ghost use Rattle.sector_disk.specs.Disk.{HasCause};
 ghost use Rattle.block_map.specs.Blocks.{IsWithin};
 
 use byteorder::{ByteOrder, LittleEndian};

@@ -3,10 +3,12 @@
 ghost use Rattle.std.specs.Prelude.{◌≡◌, ◌≢◌, false, OnOk};
 ghost use Rattle.fs_layout.specs.Inode.{free_inode};
 ghost use Rattle.fs_layout.specs.Images.{bit, inode_at};
-ghost use Rattle.bit_alloc.specs.Calls.{IsSound, HasSpare, SameStore, HasCause};
+ghost use Rattle.bit_alloc.specs.Room.{HasSpare};
+ghost use Rattle.sector_txn.specs.Sectors.{SameStore};
+ghost use Rattle.sector_disk.specs.Disk.{HasCause};
 ghost use Rattle.bit_alloc.specs.declared.bitmap.Bitmap.TheVariants.{Inodes};
 ghost use Rattle.bit_alloc.specs.Bitmaps.{IsNumber};
-ghost use Rattle.bit_alloc.specs.Inodes.{Touches};
+ghost use Rattle.bit_alloc.specs.Inodes.{Touches, IsSound};
 
 use crate::release::give_from;
 use bit_alloc::{Bitmap, give};

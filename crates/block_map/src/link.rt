@@ -2,10 +2,12 @@
 
 ghost use Rattle.std.specs.Prelude.{◌≡◌, ◌≤◌, ◌⊎◌, length, IfOk, IfErr, OnOk, IsTrue};
 ghost use Rattle.fs_layout.specs.Images.{HasNoHole, Holds, bit, free_sectors, inode_at};
-ghost use Rattle.bit_alloc.specs.Calls.{IsSound, HasSpare, SameStore, HasCauseOf};
+ghost use Rattle.bit_alloc.specs.Room.{HasSpare};
+ghost use Rattle.sector_txn.specs.Sectors.{SameStore};
+ghost use Rattle.bit_alloc.specs.Faults.{HasCauseOf};
 ghost use Rattle.bit_alloc.specs.declared.bitmap.Bitmap.TheVariants.{Inodes};
 ghost use Rattle.bit_alloc.specs.Bitmaps.{IsFreeNumber, free_numbers};
-ghost use Rattle.bit_alloc.specs.Inodes.{Touches};
+ghost use Rattle.bit_alloc.specs.Inodes.{Touches, IsSound};
 ghost use Rattle.inode_table.specs.Inodes.{ClearAreFree};
 ghost use Rattle.block_map.specs.Contents.{AllowsSize};
 ghost use Rattle.block_map.specs.Links.{IsNewLink, HasNoAcls};

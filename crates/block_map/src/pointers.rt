@@ -4,7 +4,9 @@ ghost use Rattle.std.specs.Prelude.{◌≡◌, ◌≢◌, ◌≤◌, ◌<◌, �
 ghost use Rattle.fs_layout.specs.declared.inode.TheConstants.{DIRECT_BLOCKS, MAX_BLOCKS, POINTER_LEVELS};
 ghost use Rattle.fs_layout.specs.Images.{first_block, holder, level_end, number_on, free_sectors};
 ghost use Rattle.fs_layout.specs.Lacking.{lacks_from};
-ghost use Rattle.bit_alloc.specs.Calls.{HasSpare, SameStore, HasCauseOf};
+ghost use Rattle.bit_alloc.specs.Room.{HasSpare};
+ghost use Rattle.sector_txn.specs.Sectors.{SameStore};
+ghost use Rattle.bit_alloc.specs.Faults.{HasCauseOf};
 ghost use Rattle.block_map.specs.Blocks.{IsAtHand};
 ghost use Rattle.block_map.specs.Steps.{MayChange, HasRoomFor, AddsSector, AddsNumbers, AddsPointers, lacks_pointers, pointer_sectors, most_for, sectors_to};
 

@@ -2,7 +2,8 @@
 
 ghost use Rattle.std.specs.Prelude.{◌≡◌, ◌≤◌, ℕ, List, length, IfOk};
 ghost use Rattle.fs_layout.specs.Images.{Holds};
-ghost use Rattle.bit_alloc.specs.Calls.{IsUnchanged, HasCause};
+ghost use Rattle.sector_txn.specs.Sectors.{IsUnchanged};
+ghost use Rattle.sector_disk.specs.Disk.{HasCause};
 ghost use Rattle.block_map.specs.Blocks.{IsWithin, IsReadOf};
 
 use crate::blocks::{BLOCK, Blocks, read_block};

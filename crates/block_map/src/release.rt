@@ -3,7 +3,11 @@
 ghost use Rattle.std.specs.Prelude.{◌≡◌, ◌≤◌, ◌<◌, ◌+◌, ℕ, suc, [], OnOk};
 ghost use Rattle.fs_layout.specs.declared.inode.TheConstants.{MAX_BLOCKS, POINTER_LEVELS, SECTOR_POINTERS};
 ghost use Rattle.fs_layout.specs.Images.{HasPointers, Holds, holder, inode_at, own_count};
-ghost use Rattle.bit_alloc.specs.Calls.{HasBitmaps, IsSound, HasSpare, SameStore, HasCause};
+ghost use Rattle.bit_alloc.specs.Bitmaps.{HasBitmaps};
+ghost use Rattle.bit_alloc.specs.Inodes.{IsSound};
+ghost use Rattle.bit_alloc.specs.Room.{HasSpare};
+ghost use Rattle.sector_txn.specs.Sectors.{SameStore};
+ghost use Rattle.sector_disk.specs.Disk.{HasCause};
 ghost use Rattle.block_map.specs.Contents.{AllowsSize, ChangesContent};
 ghost use Rattle.block_map.specs.Drops.{GivesParts, IsAmong, IsFor, IsFrom, OwnsOnlyData, first_above};
 ghost use Rattle.block_map.specs.Steps.{MayChange};

@@ -5,7 +5,8 @@ ghost use Rattle.fs_layout.specs.declared.inode.TheConstants.{DIRECT_BLOCKS, MAX
 ghost use Rattle.fs_layout.specs.Bytes.{SectorMap};
 ghost use Rattle.fs_layout.specs.Header.{log_end};
 ghost use Rattle.fs_layout.specs.Images.{holder, number_on, place_in_holder, pointer, free_sectors};
-ghost use Rattle.bit_alloc.specs.Calls.{SameStore, PutsOnly, HasCauseOf};
+ghost use Rattle.sector_txn.specs.Sectors.{SameStore, PutsOnly};
+ghost use Rattle.bit_alloc.specs.Faults.{HasCauseOf};
 ghost use Rattle.bit_alloc.specs.Bitmaps.{IsNumberOf};
 ghost use Rattle.block_map.specs.declared.run.TheConstants.{MAX_RUN};
 ghost use Rattle.block_map.specs.Blocks.{IsAtHand, IsLoaded};

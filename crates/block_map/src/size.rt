@@ -5,7 +5,11 @@ ghost use Rattle.fs_layout.specs.declared.inode.TheConstants.{DIRECT_BLOCKS, MAX
 ghost use Rattle.fs_layout.specs.Version.{max_file_size};
 ghost use Rattle.fs_layout.specs.Bytes.{IsBytes, resized, u32_of};
 ghost use Rattle.fs_layout.specs.Images.{Holds, HasNoHole, first_block, inode_at, own_count, place_in_holder};
-ghost use Rattle.bit_alloc.specs.Calls.{IsSound, HasSpare, SameStore, IsUnchanged, HasCause, HasCauseOf};
+ghost use Rattle.bit_alloc.specs.Inodes.{IsSound};
+ghost use Rattle.bit_alloc.specs.Room.{HasSpare};
+ghost use Rattle.sector_txn.specs.Sectors.{SameStore, IsUnchanged};
+ghost use Rattle.sector_disk.specs.Disk.{HasCause};
+ghost use Rattle.bit_alloc.specs.Faults.{HasCauseOf};
 ghost use Rattle.block_map.specs.Blocks.{IsLoaded, IsWithin};
 ghost use Rattle.block_map.specs.Contents.{AllowsSize, ChangesContent};
 ghost use Rattle.block_map.specs.Drops.{ClearsNumbers, CutsLevel, DropsBlocks, cut_by};

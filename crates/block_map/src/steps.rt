@@ -6,7 +6,11 @@ ghost use Rattle.fs_layout.specs.Bytes.{IsSector, splice, zeros};
 ghost use Rattle.fs_layout.specs.Header.{log_end};
 ghost use Rattle.fs_layout.specs.Images.{holder, number_on, pointer, free_sectors};
 ghost use Rattle.fs_layout.specs.InodeChanges.{Puts};
-ghost use Rattle.bit_alloc.specs.Calls.{HasBitmaps, HasSpare, SameStore, PutsOnly, HasCause, HasCauseOf};
+ghost use Rattle.bit_alloc.specs.Bitmaps.{HasBitmaps};
+ghost use Rattle.bit_alloc.specs.Room.{HasSpare};
+ghost use Rattle.sector_txn.specs.Sectors.{SameStore, PutsOnly};
+ghost use Rattle.sector_disk.specs.Disk.{HasCause};
+ghost use Rattle.bit_alloc.specs.Faults.{HasCauseOf};
 ghost use Rattle.block_map.specs.Blocks.{IsAtHand, IsLoaded};
 ghost use Rattle.block_map.specs.Steps.{MayChange, HasRoomFor, TakesSector, WritesBlock, pointers_to};
 

@@ -4,7 +4,8 @@ ghost use Rattle.std.specs.Prelude.{◌≡◌, ◌↔◌, ◌≤◌, ◌<◌, �
 ghost use Rattle.fs_layout.specs.Directories.{NamedInode};
 ghost use Rattle.fs_layout.specs.Version.{max_name, slot_size};
 ghost use Rattle.fs_layout.specs.declared.version.Version.{Version};
-ghost use Rattle.bit_alloc.specs.Calls.{IsUnchanged, HasCause};
+ghost use Rattle.sector_txn.specs.Sectors.{IsUnchanged};
+ghost use Rattle.sector_disk.specs.Disk.{HasCause};
 ghost use Rattle.block_map.specs.Blocks.{IsWithin};
 ghost use Rattle.dir_core.specs.Slots.{HasSlots, IsSlotAt, IsFoundInBlock, IsFoundIn};
 

@@ -3,7 +3,10 @@
 ghost use Rattle.std.specs.Prelude.{◌≡◌, ◌≢◌, ◌⊎◌, ◌/◌, ◌%◌, ℕ, List, map, IfOk, IfErr, OnOk};
 ghost use Rattle.fs_layout.specs.Directories.{NamedInode, HasNames, HaveDistinctNames, names_of_slots};
 ghost use Rattle.fs_layout.specs.Version.{block_slots};
-ghost use Rattle.bit_alloc.specs.Calls.{IsSound, IsUnchanged, HasCause, HasCauseOf};
+ghost use Rattle.bit_alloc.specs.Inodes.{IsSound};
+ghost use Rattle.sector_txn.specs.Sectors.{IsUnchanged};
+ghost use Rattle.sector_disk.specs.Disk.{HasCause};
+ghost use Rattle.bit_alloc.specs.Faults.{HasCauseOf};
 ghost use Rattle.inode_table.specs.Inodes.{IsInodeOf};
 ghost use Rattle.block_map.specs.Blocks.{IsWithin, IsAtHand};
 ghost use Rattle.dir_core.specs.Slots.{HasSlots, IsBlock, name_entry};

@@ -5,7 +5,9 @@ ghost use Rattle.fs_layout.specs.Bytes.{SectorMap};
 ghost use Rattle.fs_layout.specs.Directories.{HasNames};
 ghost use Rattle.fs_layout.specs.declared.version.Version.{Version};
 ghost use Rattle.fs_layout.specs.Maps.{get, name_cmp};
-ghost use Rattle.bit_alloc.specs.Calls.{IsSound, IsUnchanged, HasCause};
+ghost use Rattle.bit_alloc.specs.Inodes.{IsSound};
+ghost use Rattle.sector_txn.specs.Sectors.{IsUnchanged};
+ghost use Rattle.sector_disk.specs.Disk.{HasCause};
 ghost use Rattle.inode_table.specs.Inodes.{IsInodeOf};
 
 use crate::find::find_slot;

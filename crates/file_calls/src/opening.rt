@@ -197,7 +197,8 @@ pub fn open<S: Sectors>(
     mode: u16,
 ) -> CallResult
     requires ready { MayPerform asker.geometry (S.state s.old) procs.old }
-    ensures { Performs asker.geometry asker.time asker.pid (Open path.now flags mode) (S.state s.old) (S.state s.new) procs.old procs.new result }
+    ensures { Performs asker.geometry asker.time asker.pid (Open path.now flags mode)
+        (S.state s.old) (S.state s.new) procs.old procs.new result }
 {
     let caller = asker.caller(procs);
     let process = procs.process(asker.pid)?;

@@ -63,7 +63,8 @@ pub fn read<S: Sectors>(
     len: usize,
 ) -> CallResult
     requires ready { MayPerform asker.geometry (S.state s.old) procs.old }
-    ensures performs { Performs asker.geometry asker.time asker.pid (Read fd len) (S.state s.old) (S.state s.new) procs.old procs.new result }
+    ensures performs { Performs asker.geometry asker.time asker.pid (Read fd len)
+        (S.state s.old) (S.state s.new) procs.old procs.new result }
     ensures same { IsUnchanged (S.state s.old) (S.state s.new) }
 {
     let caller = asker.caller(procs);
@@ -117,7 +118,8 @@ pub fn lseek<S: Sectors>(
     by: i64,
 ) -> CallResult
     requires ready { MayPerform asker.geometry (S.state s.old) procs.old }
-    ensures performs { Performs asker.geometry asker.time asker.pid (Lseek fd whence by) (S.state s.old) (S.state s.new) procs.old procs.new result }
+    ensures performs { Performs asker.geometry asker.time asker.pid (Lseek fd whence by)
+        (S.state s.old) (S.state s.new) procs.old procs.new result }
     ensures same { IsUnchanged (S.state s.old) (S.state s.new) }
 {
     let caller = asker.caller(procs);

@@ -13,9 +13,10 @@
 ghost use Rattle.std.specs.Prelude.{◌≡◌, ◌≢◌, ◌+◌, ◌*◌, ◌≤◌, ◌<◌, ◌⊎◌, ℕ, None, Contains, IfOk};
 ghost use Rattle.fs_layout.specs.Geometry.{IsGeometry};
 ghost use Rattle.fs_layout.specs.Header.{log_end};
-ghost use Rattle.bit_alloc.specs.Calls.{HasBitmaps, IsUnchanged, HasCause};
+ghost use Rattle.sector_txn.specs.Sectors.{IsUnchanged};
+ghost use Rattle.sector_disk.specs.Disk.{HasCause};
 ghost use Rattle.bit_alloc.specs.Bits.{clear_below};
-ghost use Rattle.bit_alloc.specs.Bitmaps.{free_numbers};
+ghost use Rattle.bit_alloc.specs.Bitmaps.{free_numbers, HasBitmaps};
 ghost use Rattle.free_counts.specs.Known.{count_known, TellsClear};
 
 use bit_alloc::Bitmap;

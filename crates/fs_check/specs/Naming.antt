@@ -1,6 +1,6 @@
 -- The slots of one directory, and the tables of names so far.
 --     block_of_slot        the content of the block of a slot
---     AreValid, IsSlotAt, AreSlots        each slot of a directory is one; this is slot k, where it is one; and these are all of them
+--     AreValid, IsSlotIn, AreSlots        each slot of a directory is one; this is slot k, where it is one; and these are all of them
 --     is_below        the bytewise order of names
 --     IsUsable, HasGoodSlots        the inode of a slot is one that may be named; a directory obeys the rule on slots
 --     naming, AddsSlots        how many slots of a list name an inode; the tables with the slots of one more directory
@@ -32,9 +32,9 @@ abbrev pub AreValid : Version → SectorMap → Inode → Type 0
 AreValid version m v = (k : ℕ) → k < slot_count version v → slot_of version (stored_slot version m v k) ≡ Ok (slot_at version m v k)
 
 -- slot k of a directory, where it is valid
-abbrev pub IsSlotAt : Version → SectorMap → Inode → ℕ → Option NamedInode → Type 0
-IsSlotAt version m v k None = k < slot_count version v → AreValid version m v → ⊥
-IsSlotAt version m v k (Some slot) = (slot_of version (stored_slot version m v k) ≡ Ok (slot_at version m v k)) × (slot ≡ slot_at version m v k)
+abbrev pub IsSlotIn : Version → SectorMap → Inode → ℕ → Option NamedInode → Type 0
+IsSlotIn version m v k None = k < slot_count version v → AreValid version m v → ⊥
+IsSlotIn version m v k (Some slot) = (slot_of version (stored_slot version m v k) ≡ Ok (slot_at version m v k)) × (slot ≡ slot_at version m v k)
 
 -- the slots of a directory are valid, and this is the list of them
 pub record AreSlots (version : Version) (m : SectorMap) (v : Inode) (slots : List NamedInode) : Type 0 where

@@ -9,7 +9,7 @@ ghost use Rattle.fs_layout.specs.Version.{block_slots};
 ghost use Rattle.fs_layout.specs.Images.{IsData, Owns};
 ghost use Rattle.fs_layout.specs.Directories.{NamedInode, HaveDistinctNames};
 ghost use Rattle.fs_check.specs.Owning.{AreAtHand};
-ghost use Rattle.fs_check.specs.Naming.{block_of_slot, AreValid, IsSlotAt, AreSlots, IsUsable, HasGoodSlots, is_below};
+ghost use Rattle.fs_check.specs.Naming.{block_of_slot, AreValid, IsSlotIn, AreSlots, IsUsable, HasGoodSlots, is_below};
 ghost use Rattle.fs_check.specs.Checks.{meaning, BeginsWith, AreInodes, Passed, IsNone};
 
 use crate::faults::Checked;
@@ -49,7 +49,7 @@ fn read_block_of<D: Disk>(
 
 // Slot k of a directory, which stands in this block, where it is valid.
 fn slot_in(version: Version, block: &[u8; 512], k: usize) -> Option<Slot>
-    ensures { (m : SectorMap) (v : AnInode) → block.now ≡ block_of_slot version m v k → IsSlotAt version m v k result }
+    ensures { (m : SectorMap) (v : AnInode) → block.now ≡ block_of_slot version m v k → IsSlotIn version m v k result }
 {
     let at = version.slot_size() * (k % version.block_slots());
     match Slot::read_in(version, block, at) {

@@ -48,8 +48,8 @@ abbrev pub flag : Text → Rule
 flag name = record (new_rule name) { long = Some name; action = Some SetTrue }
 
 -- a command with the size and the inodes of the image that it makes
-abbrev pub sized : App → App
-sized command = with_rule (with_rule command (must_be_given (text_option (codes "size")))) (number_option (codes "inodes") 16 1048576)
+abbrev pub with_size : App → App
+with_size command = with_rule (with_rule command (must_be_given (text_option (codes "size")))) (number_option (codes "inodes") 16 1048576)
 
 abbrev pub mkfs : App
 mkfs = with_rule (with_rule (with_rule (new_app (codes "mkfs")) image)

@@ -3,7 +3,7 @@ ghost use Rattle.std.specs.Prelude.{◌≡◌, MatchResult, IfOk, IsOkAnd, Some,
 ghost use Rattle.clap.specs.Takes.{is_given};
 ghost use Rattle.clap.specs.Words.{AddsSubcommand, app_of, first_of, found_of, new_app, one_of, rows_of, rule_of, fault_of, subcommand_rows_of, with_rule};
 ghost use Rattle.fs_command.specs.Words.{command_line, with_users, with_makers, alone, mkfs, format, pack, unpack, run, check, info, upgrade, fuse};
-ghost use Rattle.fs_command.specs.Words.{image, directory, must_be_given, number_option, text_option, flag, sized, words_status};
+ghost use Rattle.fs_command.specs.Words.{image, directory, must_be_given, number_option, text_option, flag, with_size, words_status};
 ghost use Rattle.fs_command.specs.Sizes.{usual_inodes};
 ghost use Rattle.fs_command.specs.Words.{HasValues, IsGiven, IsNumberGiven, IsNumberIfGiven, IsNumberOr, IsFlag, IsSizeFor, AsksFor, SaysJob, Refuses};
 ghost use Rattle.fs_command.specs.Words.{SaysMkfs, SaysFormat, SaysPack, SaysUnpack, SaysRun, SaysCheck, SaysInfo, SaysUpgrade, SaysFuse, HasBadSize, HasBadValue};
@@ -513,7 +513,7 @@ fn format_command<'a>(alloc: Global) -> Result<Command<'a>, AllocError>
         "Make an image of the third layout with an empty file system",
         "The image, which must not exist",
     )?;
-    sized(alloc, command)
+    with_size(alloc, command)
 }
 
 // The words of `pack`.
@@ -527,7 +527,7 @@ fn pack_command<'a>(alloc: Global) -> Result<Command<'a>, AllocError>
         "The image, which must not exist",
     )?
     .arg(directory(alloc).help("The directory"))?;
-    sized(alloc, command)?
+    with_size(alloc, command)?
         .arg(number(alloc, "uid", 0, 4294967295).help(
             "The user of all; without it each one's own",
         ))?
@@ -537,8 +537,8 @@ fn pack_command<'a>(alloc: Global) -> Result<Command<'a>, AllocError>
 }
 
 // A command with the size of the image that it makes.
-fn sized<'a>(alloc: Global, command: Command<'a>) -> Result<Command<'a>, AllocError>
-    ensures { IfOk result (λ new. app_of new ≡ sized (app_of command.entry)) }
+fn with_size<'a>(alloc: Global, command: Command<'a>) -> Result<Command<'a>, AllocError>
+    ensures { IfOk result (λ new. app_of new ≡ with_size (app_of command.entry)) }
 {
     command
         .arg(

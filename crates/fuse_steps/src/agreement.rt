@@ -62,6 +62,7 @@ fn pages(settings: Settings) -> u16
     pages.min(65_535) as u16
 }
 
+/// The reply to INIT with these terms.
 pub fn terms(max_readahead: u32, flags: u32, max_write: u32, max_pages: u16) -> ReplyBody
     ensures { result ≡ terms max_readahead flags max_write max_pages }
 {

@@ -2,7 +2,11 @@
 
 ghost use Rattle.std.specs.Prelude.{◌≡◌, ◌≢◌, ◌<◌, List, Option, Some, None, OnOk, IfOk, IfErr};
 ghost use Rattle.fs_layout.specs.Images.{IsData, free_sectors};
-ghost use Rattle.bit_alloc.specs.Calls.{HasBitmaps, bitmaps, HasSpare, SameStore, PutsOnly, HasCause, HasCauseOf};
+ghost use Rattle.bit_alloc.specs.Bitmaps.{HasBitmaps};
+ghost use Rattle.bit_alloc.specs.Room.{bitmaps, HasSpare};
+ghost use Rattle.sector_txn.specs.Sectors.{SameStore, PutsOnly};
+ghost use Rattle.sector_disk.specs.Disk.{HasCause};
+ghost use Rattle.bit_alloc.specs.Faults.{HasCauseOf};
 ghost use Rattle.bit_alloc.specs.Room.{TakesSpare};
 ghost use Rattle.inode_table.specs.Storing.{IsForAcl, GivesBack, Stores, takes_for};
 

@@ -20,14 +20,14 @@ use Rattle.path_walk.proofs.Kept.{kept_back, sound_kept, on_err, if_err, failed_
 use Rattle.call_parts.specs.Performing.{MayPerform}
 use Rattle.call_parts.proofs.Calling.{state_kept}
 use Rattle.call_parts.proofs.Removed.{taken_after, taken_joined}
-use Rattle.name_calls.specs.Altering.{Alters}
+use Rattle.name_calls.specs.Altering.{AltersDisk}
 
 module _ {A : Type 0} {p : Geometry} {more : ℕ} {alteration : A → SectorMap → SectorMap → Type 0} where
-  pub fails : {old new : TxnState} {e : Refusal} → SameStore old new → FailsToRead old.disk new.disk e → Alters p more alteration old new (Err e)
+  pub fails : {old new : TxnState} {e : Refusal} → SameStore old new → FailsToRead old.disk new.disk e → AltersDisk p more alteration old new (Err e)
   fails store fault = record { store = store; sound = tt; taken = tt; made = tt; fault = fault }
 
   pub not_altered : {old new : TxnState} (r : Result A Refusal) (e : Refusal) → IsErr r × IsErrAnd r (λ z. z ≡ e) → SameStore old new → FailsToRead old.disk new.disk e
-      → Alters p more alteration old new r
+      → AltersDisk p more alteration old new r
   not_altered {old} {new} r e err store fault = record {
     store = store;
     sound = on_err (IsSound p new) r err.0;
@@ -37,11 +37,11 @@ module _ {A : Type 0} {p : Geometry} {more : ℕ} {alteration : A → SectorMap 
   }
 
   pub not_altered_later : {old mid new : TxnState} (r : Result A Refusal) (e : Refusal) → IsErr r × IsErrAnd r (λ z. z ≡ e) → SameStore old mid → SameStore mid new
-      → FailsToRead mid.disk new.disk e → Alters p more alteration old new r
+      → FailsToRead mid.disk new.disk e → AltersDisk p more alteration old new r
   not_altered_later {old} {mid} {new} r e err first then fault =
       not_altered r e err (store_joined first then) (fault.0, failed_later old.disk mid.disk new.disk first.reads.failures fault.1)
 
-  pub altered_after : {old mid new : TxnState} (r : Result A Refusal) → IsUnchanged old mid → Alters p more alteration mid new r → Alters p more alteration old new r
+  pub altered_after : {old mid new : TxnState} (r : Result A Refusal) → IsUnchanged old mid → AltersDisk p more alteration mid new r → AltersDisk p more alteration old new r
   altered_after {old} {mid} {new} (Ok x) same h = record {
     store = store_joined same.store h.store;
     sound = h.sound;
@@ -59,7 +59,7 @@ module _ {A : Type 0} {p : Geometry} {more : ℕ} {alteration : A → SectorMap 
 
   -- by one call after another
   pub altered : {old mid new : TxnState} (x : A) (first then : ℕ) → first + then ≤ more → SameStore old mid → TakesSpare p first old mid → SameStore mid new → IsSound p new
-      → TakesSpare p then mid new → alteration x old.sectors new.sectors → Alters p more alteration old new (Ok x)
+      → TakesSpare p then mid new → alteration x old.sectors new.sectors → AltersDisk p more alteration old new (Ok x)
   altered {old} {mid} {new} x first then fits store taken next sound last made = record {
     store = store_joined store next;
     sound = sound;

@@ -1,6 +1,6 @@
 -- What a function that changes what the disk holds asks of it, and what it promises.
 --     MayAlter        a sound disk, to which so many sectors may be put
---     Alters        it is sound then, and so many were put at most; or it has failed
+--     AltersDisk        it is sound then, and so many were put at most; or it has failed
 --     HoldsChange        it holds the tree with this change
 use Rattle.std.specs.Prelude.{◌≡◌, ℕ, Result, IfOk, OnOk, IfErr}
 use Rattle.fs_cred.specs.declared.refusal.Refusal.{Refusal}
@@ -21,7 +21,7 @@ pub record MayAlter (p : Geometry) (more : ℕ) (txn : TxnState) : Type 0 where
   pub spare : HasSpare p more txn
 
 -- The map has this alteration, as the answer says; at `Err` the disk has failed.
-pub record Alters {A : Type 0} (p : Geometry) (more : ℕ) (alteration : A → SectorMap → SectorMap → Type 0) (old new : TxnState) (result : Result A Refusal) : Type 0 where
+pub record AltersDisk {A : Type 0} (p : Geometry) (more : ℕ) (alteration : A → SectorMap → SectorMap → Type 0) (old new : TxnState) (result : Result A Refusal) : Type 0 where
   pub store : SameStore old new
   pub sound : OnOk result (IsSound p new)
   pub taken : OnOk result (TakesSpare p more old new)

@@ -1,5 +1,5 @@
 -- What a function that asks the disk asks of it, and what it promises.
---     HasTree, HasState        a sound disk, and a tree or a state of it that is so
+--     ShowsTree, HasState        a sound disk, and a tree or a state of it that is so
 --     TellsTree, TellsState        what is answered where it is so; nothing changes
 --     FoundThere        what was found is there
 --     FindsWalked        both paths lead there
@@ -18,7 +18,7 @@ use Rattle.call_parts.specs.declared.caller.Caller.{Caller}
 use Rattle.call_parts.specs.declared.reaching.WalkedBoth.{WalkedBoth}
 use Rattle.call_parts.specs.TwoPaths.{FindsBoth}
 
-pub record HasTree (p : Geometry) (txn : TxnState) (So : Tree → Type 0) : Type 0 where
+pub record ShowsTree (p : Geometry) (txn : TxnState) (So : Tree → Type 0) : Type 0 where
   pub sound : IsSound p txn
   pub there : (t : Tree) × HoldsTree p txn.sectors t × So t
 

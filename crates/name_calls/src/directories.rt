@@ -18,7 +18,7 @@ ghost use Rattle.path_walk.specs.HeldTrees.{HoldsTree, IsThere};
 ghost use Rattle.fs_model.specs.declared.call.Call.TheVariants.{Mkdir, Chdir};
 ghost use Rattle.call_parts.specs.Performing.{MayPerform, Performs, IsReadyFor, PerformsFor};
 ghost use Rattle.call_parts.specs.Makings.{CanMake};
-ghost use Rattle.name_calls.specs.Altering.{MayAlter, Alters};
+ghost use Rattle.name_calls.specs.Altering.{MayAlter, AltersDisk};
 ghost use Rattle.name_calls.specs.Entering.{enter_asked};
 ghost use Rattle.name_calls.specs.Making.{HasNewName, Makes};
 ghost use Rattle.call_parts.specs.NewNodes.{MakesNode, directory_made};
@@ -72,7 +72,7 @@ fn place_directory<S: Sectors>(
     requires directory { directory ≡ inode_at geometry (S.state s.old).sectors found.now.dir_ino }
     requires may { (t : Tree) × CanMake geometry (S.state s.old).sectors t found.now.dir_ino found.now.name }
     requires bits { bits < 2048 }
-    ensures { Alters geometry 7 (λ n. MakesNode geometry found.now.dir_ino found.now.name n
+    ensures { AltersDisk geometry 7 (λ n. MakesNode geometry found.now.dir_ino found.now.name n
         (directory_made uid gid bits access.now (option_copied default.entry))) (S.state s.old) (S.state s.new) result }
 {
     let made = Inode {
@@ -201,7 +201,8 @@ fn directory_at<S: Sectors>(s: &mut S, caller: &Caller, path: &Path) -> Result<u
 /// nothing. ENOTDIR: it leads to what is no directory.
 pub fn chdir<S: Sectors>(s: &mut S, asker: Asker, procs: &mut Procs, path: &Path) -> CallResult
     requires ready { MayPerform asker.geometry (S.state s.old) procs.old }
-    ensures performs { Performs asker.geometry asker.time asker.pid (Chdir path.now) (S.state s.old) (S.state s.new) procs.old procs.new result }
+    ensures performs { Performs asker.geometry asker.time asker.pid (Chdir path.now)
+        (S.state s.old) (S.state s.new) procs.old procs.new result }
     ensures same { IsUnchanged (S.state s.old) (S.state s.new) }
 {
     let caller = asker.caller(procs);

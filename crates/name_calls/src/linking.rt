@@ -12,9 +12,9 @@ ghost use Rattle.fs_model.specs.Trees.{IsDirectoryAt};
 ghost use Rattle.path_walk.specs.Answers.{refused_or};
 ghost use Rattle.fs_model.specs.declared.call.Call.TheVariants.{Link};
 ghost use Rattle.call_parts.specs.Performing.{IsReadyFor, PerformsFor};
-ghost use Rattle.name_calls.specs.Altering.{Alters, HoldsChange};
+ghost use Rattle.name_calls.specs.Altering.{AltersDisk, HoldsChange};
 ghost use Rattle.name_calls.specs.Linking.{source_asked, place_asked, MayLinkAt};
-ghost use Rattle.name_calls.specs.Telling.{HasTree, HasState, TellsTree, TellsState, FoundThere, FindsWalked};
+ghost use Rattle.name_calls.specs.Telling.{ShowsTree, HasState, TellsTree, TellsState, FoundThere, FindsWalked};
 ghost use Rattle.call_parts.specs.TwoPaths.{scene_with};
 
 use crate::links::check_link_name;
@@ -57,7 +57,7 @@ fn check_source<S: Sectors>(
     geometry: Geometry,
     found: &Found,
 ) -> Result<(u32, Inode), Refusal>
-    requires { HasTree geometry (S.state s.old) (FoundThere found.now) }
+    requires { ShowsTree geometry (S.state s.old) (FoundThere found.now) }
     ensures { TellsTree geometry (FoundThere found.now) (λ t. refused_or (first_of (source_asked t found.now))
         (Ok (found_ino found.now, inode_at geometry (S.state s.old).sectors (found_ino found.now))))
         (S.state s.old) (S.state s.new) result }
@@ -87,7 +87,7 @@ fn check_place<S: Sectors>(
     found: &Found,
     names: u32,
 ) -> Result<Inode, Refusal>
-    requires { HasTree caller.now.geometry (S.state s.old) (λ t. IsDirectoryAt t found.now.dir_ino) }
+    requires { ShowsTree caller.now.geometry (S.state s.old) (λ t. IsDirectoryAt t found.now.dir_ino) }
     ensures { TellsTree caller.now.geometry (λ t. IsDirectoryAt t found.now.dir_ino)
         (λ t. refused_or
         (first_of (place_asked caller.now.geometry (S.state s.old).sectors process.now.cred t
@@ -140,7 +140,7 @@ fn add_name<S: Sectors>(
     requires directory { directory ≡ inode_at caller.now.geometry (S.state s.old).sectors found.now.dir_ino }
     requires may { (ready : IsReadyFor caller.now (S.state s.old))
         × MayLinkAt caller.now.geometry (S.state s.old).sectors found.now ino ready.state }
-    ensures { Alters caller.now.geometry 5 (λ done. HoldsChange caller.now.geometry caller.now.procs.now
+    ensures { AltersDisk caller.now.geometry 5 (λ done. HoldsChange caller.now.geometry caller.now.procs.now
         (MayLinkAt caller.now.geometry (S.state s.old).sectors found.now ino) (AddName found.now.dir_ino found.now.name ino))
         (S.state s.old) (S.state s.new) result }
 {

@@ -14,7 +14,7 @@ ghost use Rattle.fs_model.specs.declared.call.Call.TheVariants.{Symlink, Readlin
 ghost use Rattle.call_parts.specs.Performing.{IsReadyFor, PerformsFor};
 ghost use Rattle.call_parts.specs.Makings.{CanMake};
 ghost use Rattle.call_parts.specs.NewNodes.{MakesNode, link_made, link_name_asked};
-ghost use Rattle.name_calls.specs.Altering.{MayAlter, Alters};
+ghost use Rattle.name_calls.specs.Altering.{MayAlter, AltersDisk};
 ghost use Rattle.name_calls.specs.Making.{HasNewName, Makes};
 
 use block_map::new_link;
@@ -71,7 +71,7 @@ fn place_link<S: Sectors>(
     requires directory { directory ≡ inode_at geometry (S.state s.old).sectors found.now.dir_ino }
     requires may { (t : Tree) × CanMake geometry (S.state s.old).sectors t found.now.dir_ino found.now.name }
     requires target { IsTarget target.now }
-    ensures { Alters geometry 7 (λ n. MakesNode geometry found.now.dir_ino found.now.name n
+    ensures { AltersDisk geometry 7 (λ n. MakesNode geometry found.now.dir_ino found.now.name n
         (link_made directory cred.now target.now)) (S.state s.old) (S.state s.new) result }
 {
     let uid = cred.uid();

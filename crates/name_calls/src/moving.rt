@@ -10,7 +10,7 @@ ghost use Rattle.call_parts.specs.Performing.{IsReadyFor};
 ghost use Rattle.call_parts.specs.NewNodes.{NamesInode};
 ghost use Rattle.call_parts.specs.UsedInode.{IsUsedInode};
 ghost use Rattle.call_parts.specs.Times.{MayMoveTimes, MovesTimes};
-ghost use Rattle.name_calls.specs.Altering.{MayAlter, Alters, HoldsChange};
+ghost use Rattle.name_calls.specs.Altering.{MayAlter, AltersDisk, HoldsChange};
 ghost use Rattle.name_calls.specs.Moving.{MayMoveTo, MayLead, MovesEntryTo, ParentFollows, renamed_touches};
 ghost use Rattle.name_calls.specs.Renaming.{inode_there};
 
@@ -37,7 +37,7 @@ fn rename_here<S: Sectors>(
         × MayMoveTo caller.now.geometry (S.state s.old).sectors first.now second.now ino ready.state }
     requires within { first.now.dir_ino ≡ second.now.dir_ino }
     requires nothing { second.now.ino ≡ None }
-    ensures { Alters caller.now.geometry 1 (λ done. MovesEntryTo caller.now.geometry first.now second.now ino)
+    ensures { AltersDisk caller.now.geometry 1 (λ done. MovesEntryTo caller.now.geometry first.now second.now ino)
         (S.state s.old) (S.state s.new) result }
 {
     let dir_ino = first.dir_ino;
@@ -59,7 +59,7 @@ fn give_name<S: Sectors>(
 ) -> Result<(), Refusal>
     requires ready { MayAlter geometry 4 (S.state s.old) }
     requires may { MayLead geometry (S.state s.old).sectors second.now.dir_ino second.now.name second.now.ino }
-    ensures { Alters geometry 4 (λ done. NamesInode geometry second.now.dir_ino second.now.name ino)
+    ensures { AltersDisk geometry 4 (λ done. NamesInode geometry second.now.dir_ino second.now.name ino)
         (S.state s.old) (S.state s.new) result }
 {
     let dir_ino = second.dir_ino;
@@ -84,7 +84,7 @@ fn move_entry<S: Sectors>(
 ) -> Result<(), Refusal>
     requires may { (ready : IsReadyFor caller.now (S.state s.old))
         × MayMoveTo caller.now.geometry (S.state s.old).sectors first.now second.now ino ready.state }
-    ensures { Alters caller.now.geometry 9 (λ done. MovesEntryTo caller.now.geometry first.now second.now ino)
+    ensures { AltersDisk caller.now.geometry 9 (λ done. MovesEntryTo caller.now.geometry first.now second.now ino)
         (S.state s.old) (S.state s.new) result }
 {
     if first.dir_ino == second.dir_ino && second.ino.is_none() {
@@ -109,7 +109,7 @@ fn follow<S: Sectors>(
 ) -> Result<(), Refusal>
     requires loaded { IsUsedInode geometry (S.state s.old) ino inode.now }
     requires spare { HasSpare geometry 1 (S.state s.old) }
-    ensures { Alters geometry 1 (λ done. ParentFollows geometry ino dir_ino to_dir_ino) (S.state s.old) (S.state s.new) result }
+    ensures { AltersDisk geometry 1 (λ done. ParentFollows geometry ino dir_ino to_dir_ino) (S.state s.old) (S.state s.new) result }
 {
     if inode.kind != Kind::Directory || dir_ino == to_dir_ino {
         return Ok(());
@@ -138,7 +138,7 @@ pub(crate) fn move_name<S: Sectors>(
     requires replaced { replaced.now ≡ inode_there caller.now.geometry (S.state s.old).sectors walked.now.second.ino }
     requires may { (ready : IsReadyFor caller.now (S.state s.old))
         × MayMoveTo caller.now.geometry (S.state s.old).sectors walked.now.first walked.now.second ino ready.state }
-    ensures { Alters caller.now.geometry 11 (λ done. HoldsChange caller.now.geometry caller.now.procs.now
+    ensures { AltersDisk caller.now.geometry 11 (λ done. HoldsChange caller.now.geometry caller.now.procs.now
         (MayMoveTo caller.now.geometry (S.state s.old).sectors walked.now.first walked.now.second ino)
         (MoveName walked.now.first.dir_ino walked.now.first.name walked.now.second.dir_ino walked.now.second.name))
         (S.state s.old) (S.state s.new) result }

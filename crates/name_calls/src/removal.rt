@@ -15,9 +15,9 @@ ghost use Rattle.fs_model.specs.declared.call.Call.TheVariants.{Unlink, Rmdir};
 ghost use Rattle.call_parts.specs.Paths.{scene_at};
 ghost use Rattle.call_parts.specs.Performing.{IsReadyFor, PerformsFor};
 ghost use Rattle.name_calls.specs.declared.removal.Target.TheVariants.{NoDirectory, Directory};
-ghost use Rattle.name_calls.specs.Altering.{Alters, HoldsChange};
+ghost use Rattle.name_calls.specs.Altering.{AltersDisk, HoldsChange};
 ghost use Rattle.name_calls.specs.Removing.{FindsName, IsNamedThere, removal_asked, last_asked, directory_asked, kind_asked, removal_demands, removal_call, MayGoAt};
-ghost use Rattle.name_calls.specs.Telling.{HasTree, HasState, TellsTree, TellsState};
+ghost use Rattle.name_calls.specs.Telling.{ShowsTree, HasState, TellsTree, TellsState};
 
 use crate::dropping::lose_name;
 use call_parts::{
@@ -76,7 +76,7 @@ fn check_removal<S: Sectors>(
     caller: &Caller,
     walked: &Walked,
 ) -> Result<(u32, Inode), Refusal>
-    requires { HasTree caller.now.geometry (S.state s.old) (λ t. IsNamedThere t walked.now.found) }
+    requires { ShowsTree caller.now.geometry (S.state s.old) (λ t. IsNamedThere t walked.now.found) }
     ensures { TellsTree caller.now.geometry (λ t. IsNamedThere t walked.now.found)
         (λ t. refused_or (first_of (removal_asked walked.now.process.now.cred t walked.now.found))
         (Ok (found_ino walked.now.found, inode_at caller.now.geometry (S.state s.old).sectors (found_ino walked.now.found))))
@@ -151,7 +151,7 @@ fn take_name<S: Sectors>(
 ) -> Result<(), Refusal>
     requires inode { inode.now ≡ inode_at caller.now.geometry (S.state s.old).sectors ino }
     requires may { (ready : IsReadyFor caller.now (S.state s.old)) × MayGoAt found.now ino ready.state }
-    ensures { Alters caller.now.geometry 6 (λ done. HoldsChange caller.now.geometry caller.now.procs.now
+    ensures { AltersDisk caller.now.geometry 6 (λ done. HoldsChange caller.now.geometry caller.now.procs.now
         (MayGoAt found.now ino) (TakeName found.now.dir_ino found.now.name)) (S.state s.old) (S.state s.new) result }
 {
     let name = found.name.bytes();

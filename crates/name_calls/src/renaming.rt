@@ -10,7 +10,7 @@ ghost use Rattle.fs_model.specs.declared.call.Call.TheVariants.{Rename};
 ghost use Rattle.call_parts.specs.Performing.{IsReadyFor, PerformsFor};
 ghost use Rattle.name_calls.specs.Renaming.{BothThere, ends_asked, names_asked, inode_there, other_kind, directory_kind, slash_told, replacing_asked};
 ghost use Rattle.name_calls.specs.Replacing.{same_number};
-ghost use Rattle.name_calls.specs.Telling.{HasTree, HasState, TellsTree, TellsState, FoundThere, FindsWalked};
+ghost use Rattle.name_calls.specs.Telling.{ShowsTree, HasState, TellsTree, TellsState, FoundThere, FindsWalked};
 ghost use Rattle.call_parts.specs.TwoPaths.{scene_with};
 
 use crate::moving::{move_name, touch_moved};
@@ -65,7 +65,7 @@ fn inode_replaced<S: Sectors>(
     geometry: Geometry,
     found: &Found,
 ) -> Result<Option<(u32, Inode)>, Refusal>
-    requires { HasTree geometry (S.state s.old) (FoundThere found.now) }
+    requires { ShowsTree geometry (S.state s.old) (FoundThere found.now) }
     ensures { TellsTree geometry (FoundThere found.now) (λ t. Ok (inode_there geometry (S.state s.old).sectors found.now.ino))
         (S.state s.old) (S.state s.new) result }
 {
@@ -137,7 +137,7 @@ fn check_renamed<S: Sectors>(
     first: &Found,
     second: &Found,
 ) -> Result<(u32, Inode, Option<(u32, Inode)>), Refusal>
-    requires { HasTree geometry (S.state s.old) (BothThere first.now second.now) }
+    requires { ShowsTree geometry (S.state s.old) (BothThere first.now second.now) }
     ensures { TellsTree geometry (BothThere first.now second.now) (λ t. refused_or (first_of (names_asked t first.now second.now))
         (Ok (
           found_ino first.now,

@@ -14,7 +14,7 @@ ghost use Rattle.path_walk.specs.Answers.{refused_or, IsAnswered};
 ghost use Rattle.path_walk.specs.HeldTrees.{HoldsTree, IsThere};
 ghost use Rattle.name_calls.specs.Renaming.{inode_there};
 ghost use Rattle.name_calls.specs.Replacing.{IsToRename, sticky_there, below_asked, replaced_asked, move_asked};
-ghost use Rattle.name_calls.specs.Telling.{HasTree, TellsTree};
+ghost use Rattle.name_calls.specs.Telling.{ShowsTree, TellsTree};
 ghost use Rattle.call_parts.specs.TwoPaths.{scene_with};
 
 use crate::removal::check_directory;
@@ -90,7 +90,7 @@ fn check_below<S: Sectors>(
     kind: Kind,
     dir_ino: u32,
 ) -> Result<(), Refusal>
-    requires { HasTree geometry (S.state s.old) (λ t. IsDirectoryAt t dir_ino) }
+    requires { ShowsTree geometry (S.state s.old) (λ t. IsDirectoryAt t dir_ino) }
     ensures { TellsTree geometry (λ t. IsDirectoryAt t dir_ino) (λ t. refused_or (below_asked t kind ino dir_ino) (Ok tt))
         (S.state s.old) (S.state s.new) result }
 {

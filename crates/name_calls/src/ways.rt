@@ -3,7 +3,7 @@
 ghost use Rattle.std.specs.Prelude.{length, Ok, IfErr};
 ghost use Rattle.fs_model.specs.Trees.{is_within, IsDirectoryAt};
 ghost use Rattle.path_walk.specs.Answers.{FailsToRead};
-ghost use Rattle.name_calls.specs.Telling.{HasTree, TellsTree};
+ghost use Rattle.name_calls.specs.Telling.{ShowsTree, TellsTree};
 
 use fs_cred::Refusal;
 use fs_layout::{Geometry, ROOT};
@@ -17,7 +17,7 @@ pub(crate) fn is_below<S: Sectors>(
     ino: u32,
     dir_ino: u32,
 ) -> Result<bool, Refusal>
-    requires { HasTree geometry (S.state s.old) (λ t. IsDirectoryAt t dir_ino) }
+    requires { ShowsTree geometry (S.state s.old) (λ t. IsDirectoryAt t dir_ino) }
     ensures told { TellsTree geometry (λ t. IsDirectoryAt t dir_ino) (λ t. Ok (is_within (length t) t ino dir_ino))
         (S.state s.old) (S.state s.new) result }
     ensures fault { IfErr result (FailsToRead (S.state s.old).disk (S.state s.new).disk) }

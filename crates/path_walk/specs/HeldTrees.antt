@@ -1,4 +1,4 @@
--- A tree as it stands on a disk. What is said of one names it by `Tree`, and its disk's room by `room_of`.
+-- A tree as it stands on a disk.
 --     HoldsTree        a map of sectors holds a tree
 --     IsThere        something stands at a number
 --     HasAccess        what an access decision reads of an inode
@@ -11,10 +11,8 @@ use Rattle.fs_layout.specs.declared.inode.Kind.{Kind}
 use Rattle.fs_layout.specs.declared.inode.Kind.TheVariants as kinds
 use Rattle.fs_layout.specs.declared.geometry.Geometry.{Geometry}
 use Rattle.fs_layout.specs.Bytes.{SectorMap}
-use Rattle.fs_model.specs.Stands.{HoldsAll, placed}
-pub use Rattle.fs_model.specs.Stands.{room_of}
-use Rattle.fs_model.specs.Trees.{node_at, IsTree}
-pub use Rattle.fs_model.specs.Trees.{Tree}
+use Rattle.fs_model.specs.Stands.{HoldsAll, placed, room_of}
+use Rattle.fs_model.specs.Trees.{Tree, node_at, IsTree}
 use Rattle.inode_table.specs.Acls.{HasAcl}
 
 -- each inode holds what the tree has at its number, and it is a tree of this disk

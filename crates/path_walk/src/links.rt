@@ -3,7 +3,9 @@
 ghost use Rattle.std.specs.Prelude.{◌≡◌, ◌≤◌, ℕ, List, length, Ok, IfOk, IfErr};
 ghost use Rattle.fs_layout.specs.declared.inode.TheConstants.{MAX_LINK_SIZE};
 ghost use Rattle.fs_layout.specs.Images.{Holds};
-ghost use Rattle.bit_alloc.specs.Calls.{IsSound, IsUnchanged, HasCauseOf};
+ghost use Rattle.bit_alloc.specs.Inodes.{IsSound};
+ghost use Rattle.sector_txn.specs.Sectors.{IsUnchanged};
+ghost use Rattle.bit_alloc.specs.Faults.{HasCauseOf};
 ghost use Rattle.inode_table.specs.Inodes.{IsInodeOf};
 ghost use Rattle.path_walk.specs.Answers.{Interrupts, IsAnswered};
 

@@ -3,11 +3,12 @@
 ghost use Rattle.std.specs.Prelude.{◌≡◌, ◌<◌, ℕ, Some, Ok, IfOk, IfErr};
 ghost use Rattle.fs_model.specs.Nodes.{names_of_body};
 ghost use Rattle.fs_model.specs.Trails.{named_inode};
-ghost use Rattle.fs_model.specs.Trees.{IsDirectoryAt};
+ghost use Rattle.fs_model.specs.Trees.{IsDirectoryAt, Tree};
 ghost use Rattle.fs_layout.specs.Images.{inode_at};
-ghost use Rattle.bit_alloc.specs.Calls.{IsSound, IsUnchanged};
+ghost use Rattle.bit_alloc.specs.Inodes.{IsSound};
+ghost use Rattle.sector_txn.specs.Sectors.{IsUnchanged};
 ghost use Rattle.path_walk.specs.Answers.{FailsToRead, Interrupts, IsAnswered};
-ghost use Rattle.path_walk.specs.HeldTrees.{Tree, HoldsTree};
+ghost use Rattle.path_walk.specs.HeldTrees.{HoldsTree};
 ghost use Rattle.path_walk.specs.SoundInodes.{LeadsOn};
 
 use crate::components::{is_dot, is_dot_dot};

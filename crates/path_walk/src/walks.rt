@@ -4,9 +4,13 @@ ghost use Rattle.std.specs.Prelude.{◌≡◌, ◌<◌, ◌≤◌, length, None,
 ghost use Rattle.fs_model.specs.Demands.{first_of};
 ghost use Rattle.fs_model.specs.Parts.{path_checks};
 ghost use Rattle.fs_model.specs.Limits.{path_limit};
-ghost use Rattle.bit_alloc.specs.Calls.{IsSound, IsUnchanged, HasCauseOf};
+ghost use Rattle.bit_alloc.specs.Inodes.{IsSound};
+ghost use Rattle.sector_txn.specs.Sectors.{IsUnchanged};
+ghost use Rattle.bit_alloc.specs.Faults.{HasCauseOf};
 ghost use Rattle.path_walk.specs.Answers.{IsAnswered};
-ghost use Rattle.path_walk.specs.HeldTrees.{Tree, room_of, HoldsTree, IsThere};
+ghost use Rattle.path_walk.specs.HeldTrees.{HoldsTree, IsThere};
+ghost use Rattle.fs_model.specs.Trees.{Tree};
+ghost use Rattle.fs_model.specs.Stands.{room_of};
 ghost use Rattle.path_walk.specs.SoundInodes.{HasSoundInodes};
 ghost use Rattle.path_walk.specs.Walked.{walk_of};
 

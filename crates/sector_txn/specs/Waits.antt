@@ -1,7 +1,7 @@
 -- What waits, as a store keeps it, and what a read of a sector leaves.
 --     with_waiting        a map with all that waits
 --     Waits        it is what may wait in a store
---     HasPlaces, HasRoom        changes fit beside what waits
+--     EntriesHavePlaces, EntriesHaveRoom        changes fit beside what waits
 --     IsRead        what a read leaves
 use Rattle.std.specs.Prelude.{◌≡◌, ◌≤◌, ℕ, ◌+◌, List, length, Result}
 use Rattle.fs_layout.specs.Bytes.{SectorMap}
@@ -20,12 +20,12 @@ abbrev pub Waits : DiskState → Waiting → Type 0
 Waits disk waiting = IsWaiting disk waiting.placed.value waiting.logged.value
 
 -- all changes may go to their places,
-abbrev pub HasPlaces : BatchView → List Entry → Type 0
-HasPlaces placed delta = length placed.entries + length delta ≤ placed.most
+abbrev pub EntriesHavePlaces : BatchView → List Entry → Type 0
+EntriesHavePlaces placed delta = length placed.entries + length delta ≤ placed.most
 
 -- or be logged
-abbrev pub HasRoom : BatchView → List Entry → Type 0
-HasRoom logged delta = length logged.entries + added logged.entries delta ≤ logged.most
+abbrev pub EntriesHaveRoom : BatchView → List Entry → Type 0
+EntriesHaveRoom logged delta = length logged.entries + added logged.entries delta ≤ logged.most
 
 -- the disk was only read, and reads the same
 pub record IsRead {T E : Type 0} (old new : DiskState) (result : Result T E) : Type 0 where

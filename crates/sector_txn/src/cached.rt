@@ -9,7 +9,7 @@ ghost use Rattle.redo_journal.specs.Meaning.{EachReadsAs, LeavesSameMap, IsMappe
 ghost use Rattle.redo_journal.specs.States.{header_at, HasHeader, IsIdle};
 ghost use Rattle.sector_disk.specs.Disk.{IsSame, ForgetsPast, Elapses, HasCause, HasWriteCause};
 ghost use Rattle.sector_txn.specs.Images.{LeavesOldOr};
-ghost use Rattle.sector_txn.specs.Waits.{IsRead, Waits, HasPlaces, HasRoom, with_waiting};
+ghost use Rattle.sector_txn.specs.Waits.{IsRead, Waits, EntriesHavePlaces, EntriesHaveRoom, with_waiting};
 
 use crate::clean::CleanSectors;
 use crate::commit::commit;
@@ -133,8 +133,8 @@ impl<D: Disk> CachedJournal<D> {
     pub(crate) fn keep(&self, waiting: &mut Waiting, delta: &Batch)
         requires waits { Waits (D.state self.now) waiting.old }
         requires on_disk { IsOnDisk (header_at (D.state self.now).seen) (D.state self.now).size delta.now.entries }
-        requires places { HasPlaces waiting.old.placed.value delta.now.entries }
-        requires room { HasRoom waiting.old.logged.value delta.now.entries }
+        requires places { EntriesHavePlaces waiting.old.placed.value delta.now.entries }
+        requires room { EntriesHaveRoom waiting.old.logged.value delta.now.entries }
         ensures waits { Waits (D.state self.now) waiting.new }
         ensures map { (f : SectorMap) (n : ℕ) →
             with_waiting waiting.new f n ≡ with_batch delta.now.entries (with_waiting waiting.old f) n }

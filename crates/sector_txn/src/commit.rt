@@ -8,7 +8,7 @@ ghost use Rattle.redo_journal.specs.States.{StandsIn, header_at};
 ghost use Rattle.sector_disk.specs.Disk.{HasCause, HasWriteCause};
 ghost use Rattle.sector_txn.specs.Images.{LeavesOldOr};
 ghost use Rattle.sector_txn.specs.Stores.{IsWaiting, all_waiting};
-ghost use Rattle.sector_txn.specs.Waits.{Waits, HasPlaces, HasRoom, with_waiting};
+ghost use Rattle.sector_txn.specs.Waits.{Waits, EntriesHavePlaces, EntriesHaveRoom, with_waiting};
 
 use crate::cached::CachedJournal;
 use crate::waiting::{Waiting, fits};
@@ -51,11 +51,12 @@ pub(crate) fn commit_if_full<D: Disk>(
     requires waits { Waits (D.state journal) waiting.old }
     requires few { length delta.now.entries ≤ max_delta (header_at (D.state journal).seen) }
     ensures waits { IfOk result (λ after. Waits (D.state after) waiting.new) }
-    ensures places { IfOk result (λ after. HasPlaces waiting.new.placed.value delta.now.entries) }
-    ensures room { IfOk result (λ after. HasRoom waiting.new.logged.value delta.now.entries) }
+    ensures places { IfOk result (λ after. EntriesHavePlaces waiting.new.placed.value delta.now.entries) }
+    ensures room { IfOk result (λ after. EntriesHaveRoom waiting.new.logged.value delta.now.entries) }
 
     // Where nothing goes to its place alone, it is due once the log has no room.
-    ensures due { length waiting.old.placed.value.entries ≡ 0 → HasRoom waiting.old.logged.value delta.now.entries → result ≡ Ok journal }
+    ensures due { length waiting.old.placed.value.entries ≡ 0
+        → EntriesHaveRoom waiting.old.logged.value delta.now.entries → result ≡ Ok journal }
 
     // The header stays.
     ensures header { IfOk result (λ after. header_at (D.state after).seen ≡ header_at (D.state journal).seen) }

@@ -5,7 +5,7 @@ ghost use Rattle.fs_layout.specs.Bytes.{SectorMap};
 ghost use Rattle.fs_layout.specs.Header.{max_delta, max_targets};
 ghost use Rattle.fs_layout.specs.declared.header.TheConstants.{MAX_HEADER};
 ghost use Rattle.redo_journal.specs.Batch.{IsOnDisk, added, with_batch};
-ghost use Rattle.sector_txn.specs.Waits.{HasPlaces, with_waiting};
+ghost use Rattle.sector_txn.specs.Waits.{EntriesHavePlaces, with_waiting};
 
 use fs_layout::max_targets;
 use redo_journal::{Batch, MOST_SECTORS};
@@ -96,7 +96,8 @@ impl Waiting {
 /// were new.
 pub(crate) fn fits(most: usize, placed: &Batch, logged: &Batch, delta: &Batch) -> bool
     requires { length logged.now.entries ≤ most }
-    ensures fits { IsTrue result ↔ (HasPlaces placed.now delta.now.entries × (length logged.now.entries + added logged.now.entries delta.now.entries ≤ most)) }
+    ensures fits { IsTrue result ↔ (EntriesHavePlaces placed.now delta.now.entries
+        × (length logged.now.entries + added logged.now.entries delta.now.entries ≤ most)) }
     ensures empty { length delta.now.entries ≡ 0 → IsTrue result }
 {
     if placed.most() < placed.len() + delta.len() {

@@ -6,7 +6,7 @@ ghost use Rattle.fs_layout.specs.Version.{max_name};
 ghost use Rattle.fs_layout.specs.Directories.{IsName};
 ghost use Rattle.bit_alloc.specs.Room.{HasSpare};
 ghost use Rattle.blank_map.specs.Maps.{IsWithoutInodes};
-ghost use Rattle.storage_tests.specs.Directories.{IsDirectory};
+ghost use Rattle.storage_tests.specs.Directories.{IsStoredDirectory};
 
 use crate::tests::maps::{end, map_without_inodes, parsed};
 use blank_map::Counted;
@@ -80,9 +80,9 @@ fn fill<S: Sectors>(
     inode: &mut Inode,
     count: u32,
 ) -> Result<(), Fail>
-    requires directory { IsDirectory geometry (S.state s.old) ino inode.old }
+    requires directory { IsStoredDirectory geometry (S.state s.old) ino inode.old }
     requires few { count ≤ 600 }
-    ensures { OnOk result (IsDirectory geometry (S.state s.new) ino inode.new) }
+    ensures { OnOk result (IsStoredDirectory geometry (S.state s.new) ino inode.new) }
 {
     for i in 0..count {
         if s.room() < (geometry.table - geometry.inode_bitmap) as usize + 4 {
@@ -107,7 +107,7 @@ fn renamed<S: Sectors>(
     inode: &Inode,
     name: &[u8],
 ) -> Result<(), DirFault>
-    requires directory { IsDirectory geometry (S.state s.old) ino inode.now }
+    requires directory { IsStoredDirectory geometry (S.state s.old) ino inode.now }
     requires spare { HasSpare geometry 1 (S.state s.old) }
 {
     let new_name = b"new";
@@ -130,7 +130,7 @@ fn perform<S: Sectors>(
     call: Call,
     name: &[u8],
 ) -> Result<usize, DirFault>
-    requires directory { IsDirectory geometry (S.state s.old) ino inode.old }
+    requires directory { IsStoredDirectory geometry (S.state s.old) ino inode.old }
     requires name { IsName name.now }
     requires short { length name.now ≤ max_name geometry.version }
     requires spare { HasSpare geometry 5 (S.state s.old) }

@@ -3,7 +3,7 @@ use Rattle.std.specs.Prelude.{◌≡◌, ◌/◌, ◌<◌, Ok}
 use Rattle.sector_disk.proofs.Moments.{reads_joined}
 use Rattle.fs_layout.specs.Directories.{slot_count, slot_at, slot_of, stored_slot}
 use Rattle.fs_check.specs.Checks.{meaning}
-use Rattle.fs_check.specs.Naming.{IsSlotAt}
+use Rattle.fs_check.specs.Naming.{IsSlotIn}
 use Rattle.fs_check.specs.Owning.{AreAtHand}
 use Rattle.fs_check.proofs.Carrying.{meaning_same, read_error}
 use Rattle.fs_check.proofs.Tables.{more_there, more_good}
@@ -34,7 +34,7 @@ returns-in_default-clause-slots g c =
     let here = block_back s0 (g.D.Disk.state c.loop-k.disk) c.loop-k.invariant.reads v version k c.read_block_of.new.block c.in_ok-read_block_of.ensures.content in
     let below : k < slot_count version v =
     subst (λ n. k < v.size / n) c.slot_size.ensures (let lt = c.loop-k-test.true in lt) in
-    subst (IsSlotAt version (meaning s0) v k) c.in_default.is (c.slot_in.ensures (meaning s0) v here) below
+    subst (IsSlotIn version (meaning s0) v k) c.in_default.is (c.slot_in.ensures (meaning s0) v here) below
 
 pub returns-in_default-clause-passed : goal.returns-in_default-clause-passed
 returns-in_default-clause-passed g c = record { reads = reads_joined c.loop-k.invariant.reads c.in_ok-read_block_of.ensures.passed.reads; reason = tt }
@@ -48,7 +48,7 @@ loop-k-preserved g c =
     let k = c.loop-k.k in
     let block = c.read_block_of.new.block in
     let here = block_back s0 (g.D.Disk.state c.loop-k.disk) c.loop-k.invariant.reads v version k block c.in_ok-read_block_of.ensures.content in
-    let good = subst (IsSlotAt version m v k) c.in-Some.is (c.slot_in.ensures m v here) in
+    let good = subst (IsSlotIn version m v k) c.in-Some.is (c.slot_in.ensures m v here) in
     let len = c.loop-k.invariant.len in
     let more = c.push_reserved.ensures.len in
     record {

@@ -3,7 +3,7 @@ use Rattle.std.proofs.lemmas.Result.{IfOk-weaker}
 use Rattle.clap.specs.Words.{app_of, rule_of, with_rule}
 use Rattle.clap.specs.declared.builder.arg.Arg.{Arg}
 use Rattle.fs_command.specs.Words.{must_be_given, text_option}
-use Rattle.fs_command.proofs.words.sized.Goals as goal
+use Rattle.fs_command.proofs.words.with_size.Goals as goal
 
 pub returns : goal.returns
 returns c =
