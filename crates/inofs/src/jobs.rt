@@ -200,8 +200,8 @@ sector 0: a superblock has to stand here, of a known version, with the image's o
 does, so nothing else is found; nothing is repaired: take the image from a backup
 ";
 
-// A row finds what those before it have left.
-static ROWS: [Row; 42] = [
+// Of an image of version 2. A row finds what those before it have left, also in the tables before its own.
+static NEW_IMAGE: [Row; 12] = [
     // No file is made.
     (
         Change::Nothing,
@@ -240,6 +240,10 @@ static ROWS: [Row; 42] = [
     ),
     (Change::Nothing, "check @d", "", (0, FILLED, "")),
     (Change::Nothing, "info @d --json", "", (0, FILLED_JSON, "")),
+];
+
+// Of that image, damaged.
+static DAMAGED_IMAGE: [Row; 11] = [
     (
         Change::Byte(512, 0),
         "info @d",
@@ -297,6 +301,10 @@ static ROWS: [Row; 42] = [
         SCRIPT,
         (3, "", "mount: NotAFileSystem\n"),
     ),
+];
+
+// Of images of version 3.
+static LARGE_IMAGE: [Row; 9] = [
     (
         Change::Nothing,
         "format @e --size 1M --inodes 64",
@@ -326,6 +334,10 @@ static ROWS: [Row; 42] = [
         "",
         (2, "", BAD_SIZE),
     ),
+];
+
+// Of trees, and without an image.
+static TREES: [Row; 10] = [
     (
         Change::Nothing,
         "pack @p @none --size 1M",
@@ -399,8 +411,15 @@ fn push_rows(rt: &HostRuntime, folder: &str, report: &mut String) -> Result<(), 
     make_tree(rt, folder)?;
     let script = format!(in rt.alloc(); "{folder}/s")?;
     fs::write(rt, script.as_str(), UNKNOWN.as_bytes())?;
-    for row in &ROWS {
-        push_row(rt, folder, report, row)?;
+    for rows in [
+        NEW_IMAGE.as_slice(),
+        DAMAGED_IMAGE.as_slice(),
+        LARGE_IMAGE.as_slice(),
+        TREES.as_slice(),
+    ] {
+        for row in rows {
+            push_row(rt, folder, report, row)?;
+        }
     }
     push_other_text(report, "unpacked", unpacked(rt, folder)?, "hello 416 true")?;
     Ok(())

@@ -78,7 +78,7 @@ enum Said {
     Granted(Rule),
 }
 
-static REPLIES: [(Said, &str); 50] = [
+static SHOWN: [(Said, &str); 9] = [
     (
         Said::Status(FileType::File),
         "ino 3 file 0644 links 2 uid 1000 gid 100 size 18446744073709551615",
@@ -115,6 +115,9 @@ static REPLIES: [(Said, &str); 50] = [
         Said::Denied(Need::Remove),
         "denied EPERM 1 walk 2 step 7 need remove rule mask",
     ),
+];
+
+static ERRORS: [(Said, &str); 20] = [
     (Said::Failed(Errno::EPERM), "error EPERM 1"),
     (Said::Failed(Errno::ENOENT), "error ENOENT 2"),
     (Said::Failed(Errno::ESRCH), "error ESRCH 3"),
@@ -135,6 +138,9 @@ static REPLIES: [(Said, &str); 50] = [
     (Said::Failed(Errno::ENAMETOOLONG), "error ENAMETOOLONG 36"),
     (Said::Failed(Errno::ENOTEMPTY), "error ENOTEMPTY 39"),
     (Said::Failed(Errno::ELOOP), "error ELOOP 40"),
+];
+
+static GRANTS: [(Said, &str); 13] = [
     (Said::Granted(Rule::Owner), "granted owner"),
     (Said::Granted(Rule::NamedUser(1001)), "granted user:1001"),
     (Said::Granted(Rule::OwningGroup), "granted group"),
@@ -154,6 +160,9 @@ static REPLIES: [(Said, &str); 50] = [
     (Said::Granted(Rule::NoCapability), "granted no-capability"),
     (Said::Granted(Rule::NotMember), "granted not-member"),
     (Said::Granted(Rule::Sticky), "granted sticky"),
+];
+
+static OTHERS: [(Said, &str); 8] = [
     (Said::Done, "ok"),
     (
         Said::Pid(18_446_744_073_709_551_615),
@@ -222,8 +231,15 @@ fn expect_text(
 }
 
 fn expect_replies(alloc: Global, report: &mut String) -> Result<(), AllocError> {
-    for &(said, wanted) in &REPLIES {
-        expect_text(alloc, report, reply_of(said), wanted)?;
+    for replies in [
+        SHOWN.as_slice(),
+        ERRORS.as_slice(),
+        GRANTS.as_slice(),
+        OTHERS.as_slice(),
+    ] {
+        for &(said, wanted) in replies {
+            expect_text(alloc, report, reply_of(said), wanted)?;
+        }
     }
     Ok(())
 }
