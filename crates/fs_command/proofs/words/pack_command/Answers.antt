@@ -16,6 +16,6 @@ returns c =
     ∙ ap₂ with_rule c.in_ok-on_image.ensures (ap rule_of c.help.ensures ∙ c.directory.ensures.rule) in
     let two : app_of c.in_ok-arg.field-0 ≡ with_rule (with_size from_directory) (number_option (codes "uid") 0 4294967295) =
     c.in_ok-arg.ensures.shape (ap (λ (a : Arg). a.global) c.help-2.ensures ∙ c.number.ensures.local)
-    ∙ ap₂ with_rule (c.in_ok-sized.ensures ∙ ap with_size one) (ap rule_of c.help-2.ensures ∙ c.number.ensures.rule) in
+    ∙ ap₂ with_rule (c.in_ok-with_size.ensures ∙ ap with_size one) (ap rule_of c.help-2.ensures ∙ c.number.ensures.rule) in
     IfOk-weaker c.arg-3.result _ _ (λ command adds. adds.shape (ap (λ (a : Arg). a.global) c.help-3.ensures ∙ c.number-2.ensures.local)
     ∙ ap₂ with_rule two (ap rule_of c.help-3.ensures ∙ c.number-2.ensures.rule)) c.arg-3.ensures
