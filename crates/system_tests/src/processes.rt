@@ -185,7 +185,10 @@ static LEFT: [(Step, u64, Result<u64, Errno>); 16] = [
 
 // The first row that is answered otherwise.
 fn first_other(procs: &mut Procs, alloc: Global) -> Option<(usize, usize)> {
-    for (part, rows) in [TABLES.as_slice(), STATES.as_slice(), LEFT.as_slice()].iter().enumerate() {
+    for (part, rows) in [TABLES.as_slice(), STATES.as_slice(), LEFT.as_slice()]
+        .iter()
+        .enumerate()
+    {
         for (row, (step, count, first)) in rows.iter().enumerate() {
             if !are_answered(procs, alloc, *step, *count, *first) {
                 return Some((part, row));
