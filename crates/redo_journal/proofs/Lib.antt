@@ -1,4 +1,5 @@
 mod Both
+pub mod Causes
 pub mod Areas
 pub mod Entries
 pub mod Puts

@@ -1,13 +1,16 @@
-use Rattle.std.proofs.Common.{◌≡◌, ◌<◌, ℕ, length, sym, ◌∙◌, ap, subst, arith}
-use Rattle.std.proofs.lemmas.Bool.{eqb-true}
+use Rattle.std.proofs.Common.{◌≡◌, ◌<◌, ℕ, length, sym, ◌∙◌, ap, subst, arith, Bool, false, List, [], ◌∷◌, eqb, refl}
+use Rattle.std.proofs.lemmas.Bool.{eqb-true, eq-eqb, true≢false}
 use Rattle.redo_journal.proofs.Entries.{length-targets}
-use Rattle.std.proofs.lemmas.Result.{on_ok_weaker}
+use Rattle.std.proofs.lemmas.Result.{on_ok_weaker, IfOk-from_err}
 use Rattle.fs_layout.specs.Header.{header_of}
 use Rattle.sector_disk.specs.Disk.{DiskState, Image, IsImageOr, sector}
 use Rattle.sector_disk.proofs.Moments.{adds_narrowed, goes_on, image_or, joined, started, weaker}
 use Rattle.redo_journal.specs.States.{HasHeader, HasNext, InLog, IsReady}
 use Rattle.redo_journal.specs.Meaning.{ReadsAs, data_of}
 use Rattle.redo_journal.proofs.Meaning.{adds_joined, log_keeps, logged_from, logged_others, next_same, nothing_logged, nothing_valid, or_joined, others_low, ready_reads}
+use Rattle.redo_journal.specs.Batch.{Entry, targets}
+use Rattle.redo_journal.proofs.Placing.{log_fits}
+use Rattle.redo_journal.proofs.Causes.{cause_of_none, cause_on, cause_then, told_of_none, told_on, told_then}
 use Rattle.redo_journal.proofs.commit.log_batch.Goals as goal
 
 -- images while header and log are written read as before
@@ -59,3 +62,78 @@ returns-then-is_empty-clause-logged g c =
     let none : length c.args.batch.now.entries ≡ 0 =
     omega (arith, eqb-true (length c.sectors.result.now) 0 (sym c.is_empty.ensures ∙ c.if-is_empty.true), ap length c.sectors.ensures.sectors, length-targets c.args.batch.now.entries) in
     nothing_logged c.args.batch.now.entries (g.D.Disk.state c.args.disk.now) c.requires.ready none (nothing_valid c.args.batch.now.entries _ _ none)
+
+-- a batch with sectors isn't empty
+some_in : (result : Bool) (sectors : List ℕ) (entries : List Entry) → result ≡ eqb (length sectors) 0 → sectors ≡ targets entries → result ≡ false → 0 < length entries
+some_in result sectors [] is of filled = absurd (true≢false (sym (is ∙ eq-eqb (length sectors) 0 (ap length of)) ∙ filled))
+some_in result sectors (e ∷ entries) is of filled = omega arith
+
+pub write_header-requires-clause-room : goal.write_header-requires-clause-room
+write_header-requires-clause-room g c = log_fits c.args.batch.now.entries c.args.header (g.D.Disk.state c.args.disk.now).size (some_in c.is_empty.result c.sectors.result.now c.args.batch.now.entries c.is_empty.ensures c.sectors.ensures.sectors c.if-is_empty.false) c.requires.on_disk
+
+pub write_log-requires-clause-room : goal.write_log-requires-clause-room
+write_log-requires-clause-room g c = let fits = log_fits c.args.batch.now.entries c.args.header (g.D.Disk.state c.args.disk.now).size (some_in c.is_empty.result c.sectors.result.now c.args.batch.now.entries c.is_empty.ensures c.sectors.ensures.sectors c.if-is_empty.false) c.requires.on_disk in omega (arith, fits, c.write_header.ensures.adds.size)
+
+-- what each end tells
+pub returns-then-is_empty-clause-next : goal.returns-then-is_empty-clause-next
+returns-then-is_empty-clause-next g c = c.requires.next
+
+pub returns-then-is_empty-clause-empty : goal.returns-then-is_empty-clause-empty
+returns-then-is_empty-clause-empty g c = λ none. (refl, refl)
+
+pub returns-then-is_empty-clause-size : goal.returns-then-is_empty-clause-size
+returns-then-is_empty-clause-size g c = refl
+
+pub returns-then-is_empty-clause-cause : goal.returns-then-is_empty-clause-cause
+returns-then-is_empty-clause-cause g c = cause_of_none
+
+pub returns-then-is_empty-clause-told : goal.returns-then-is_empty-clause-told
+returns-then-is_empty-clause-told g c = told_of_none
+
+pub returns-in_err-write_header-clause-logged : goal.returns-in_err-write_header-clause-logged
+returns-in_err-write_header-clause-logged g c = IfOk-from_err c.from_residual.result _ c.from_residual.ensures.0
+
+pub returns-in_err-write_header-clause-next : goal.returns-in_err-write_header-clause-next
+returns-in_err-write_header-clause-next g c = IfOk-from_err c.from_residual.result _ c.from_residual.ensures.0
+
+pub returns-in_err-write_header-clause-empty : goal.returns-in_err-write_header-clause-empty
+returns-in_err-write_header-clause-empty g c = λ none. absurd (let some : 0 < length c.args.batch.now.entries = some_in c.is_empty.result c.sectors.result.now c.args.batch.now.entries c.is_empty.ensures c.sectors.ensures.sectors c.if-is_empty.false in omega (arith, none, some))
+
+pub returns-in_err-write_header-clause-size : goal.returns-in_err-write_header-clause-size
+returns-in_err-write_header-clause-size g c = c.write_header.ensures.adds.size
+
+pub returns-in_err-write_header-clause-cause : goal.returns-in_err-write_header-clause-cause
+returns-in_err-write_header-clause-cause g c = cause_on c.from_residual.result c.from_residual.ensures.0 c.in_err-write_header.ensures.cause
+
+pub returns-in_err-write_header-clause-told : goal.returns-in_err-write_header-clause-told
+returns-in_err-write_header-clause-told g c = told_on c.from_residual.result c.from_residual.ensures.0 c.in_err-write_header.ensures.told
+
+pub returns-in_err-write_log-clause-logged : goal.returns-in_err-write_log-clause-logged
+returns-in_err-write_log-clause-logged g c = IfOk-from_err c.from_residual-in_err-write_log.result _ c.from_residual-in_err-write_log.ensures.0
+
+pub returns-in_err-write_log-clause-next : goal.returns-in_err-write_log-clause-next
+returns-in_err-write_log-clause-next g c = IfOk-from_err c.from_residual-in_err-write_log.result _ c.from_residual-in_err-write_log.ensures.0
+
+pub returns-in_err-write_log-clause-empty : goal.returns-in_err-write_log-clause-empty
+returns-in_err-write_log-clause-empty g c = λ none. absurd (let some : 0 < length c.args.batch.now.entries = some_in c.is_empty.result c.sectors.result.now c.args.batch.now.entries c.is_empty.ensures c.sectors.ensures.sectors c.if-is_empty.false in omega (arith, none, some))
+
+pub returns-in_err-write_log-clause-size : goal.returns-in_err-write_log-clause-size
+returns-in_err-write_log-clause-size g c = c.write_log.ensures.adds.size ∙ c.write_header.ensures.adds.size
+
+pub returns-in_err-write_log-clause-cause : goal.returns-in_err-write_log-clause-cause
+returns-in_err-write_log-clause-cause g c = cause_on c.from_residual-in_err-write_log.result c.from_residual-in_err-write_log.ensures.0 (cause_then c.write_header.ensures.cause c.in_err-write_log.ensures.cause)
+
+pub returns-in_err-write_log-clause-told : goal.returns-in_err-write_log-clause-told
+returns-in_err-write_log-clause-told g c = told_on c.from_residual-in_err-write_log.result c.from_residual-in_err-write_log.ensures.0 (told_then c.in_ok-write_header.ensures.told c.in_err-write_log.ensures.told)
+
+pub returns-clause-empty : goal.returns-clause-empty
+returns-clause-empty g c = λ none. absurd (let some : 0 < length c.args.batch.now.entries = some_in c.is_empty.result c.sectors.result.now c.args.batch.now.entries c.is_empty.ensures c.sectors.ensures.sectors c.if-is_empty.false in omega (arith, none, some))
+
+pub returns-clause-size : goal.returns-clause-size
+returns-clause-size g c = c.sync.ensures.changes.size ∙ c.write_log.ensures.adds.size ∙ c.write_header.ensures.adds.size
+
+pub returns-clause-cause : goal.returns-clause-cause
+returns-clause-cause g c = cause_then c.write_header.ensures.cause (cause_then c.write_log.ensures.cause c.sync.ensures.cause)
+
+pub returns-clause-told : goal.returns-clause-told
+returns-clause-told g c = told_then c.in_ok-write_header.ensures.told (told_then c.in_ok-write_log.ensures.told c.sync.ensures.told)

@@ -5,6 +5,8 @@ use Rattle.redo_journal.specs.Batch.{target_at, content_at}
 use Rattle.redo_journal.proofs.Absorbing.{on_disk_at}
 use Rattle.redo_journal.proofs.Entries.{entry_is, in_targets, targets_apart}
 use Rattle.redo_journal.proofs.Writing.{written_more, written_other, written_so}
+use Rattle.std.proofs.lemmas.Result.{IfOk-from_err}
+use Rattle.redo_journal.proofs.Causes.{cause_on, cause_since, told_on, told_since}
 use Rattle.redo_journal.proofs.steps.write_targets.Goals as goal
 
 pub write-requires : goal.write-requires
@@ -48,3 +50,30 @@ loop-n-preserved g c =
       failures = omega (arith, so_far.failures, c.write.ensures.cause.later);
       failed_writes = c.in_ok-write.ensures.told.quiet ∙ so_far.failed_writes;
     }
+
+pub returns-in_err-write-clause-written : goal.returns-in_err-write-clause-written
+returns-in_err-write-clause-written g c = IfOk-from_err c.from_residual.result _ c.from_residual.ensures.0
+
+pub returns-in_err-write-clause-others : goal.returns-in_err-write-clause-others
+returns-in_err-write-clause-others g c = IfOk-from_err c.from_residual.result _ c.from_residual.ensures.0
+
+pub returns-in_err-write-clause-cause : goal.returns-in_err-write-clause-cause
+returns-in_err-write-clause-cause g c = cause_on c.from_residual.result c.from_residual.ensures.0 (cause_since c.loop-n.invariant.failures c.in_err-write.ensures.cause)
+
+pub returns-in_err-write-clause-told : goal.returns-in_err-write-clause-told
+returns-in_err-write-clause-told g c = told_on c.from_residual.result c.from_residual.ensures.0 (told_since c.loop-n.invariant.failed_writes c.in_err-write.ensures.told)
+
+pub returns-clause-others : goal.returns-clause-others
+returns-clause-others g c = c.loop-n.invariant.others
+
+pub returns-clause-adds : goal.returns-clause-adds
+returns-clause-adds g c = c.loop-n.invariant.adds
+
+pub returns-clause-any_moment : goal.returns-clause-any_moment
+returns-clause-any_moment g c = c.loop-n.invariant.since
+
+pub returns-clause-cause : goal.returns-clause-cause
+returns-clause-cause g c = record { later = c.loop-n.invariant.failures; fault = tt }
+
+pub returns-clause-told : goal.returns-clause-told
+returns-clause-told g c = let quiet = c.loop-n.invariant.failed_writes in record { later = omega (arith, quiet); fault = tt; quiet = quiet }
