@@ -8,4 +8,5 @@ mod Undone
 pub mod Moments
 mod Passing
 mod Recorded
+mod Refused
 pub mod ZeroEnds

@@ -1,6 +1,6 @@
 //! A file of which some sectors are read into memory.
 
-ghost use Rattle.std.specs.Prelude.{◌≡◌, ◌≢◌, ◌<◌, ◌≤◌, ◌+◌, ◌^◌, ◌∷◌, [], ℕ, get_or, length, IfOk, IfSome, IsTrue, OnOk};
+ghost use Rattle.std.specs.Prelude.{◌≡◌, ◌≢◌, ◌<◌, ◌≤◌, ◌+◌, ◌^◌, ◌∷◌, [], ℕ, get_or, length, replicate, IfOk, IfSome, IsTrue, OnOk};
 ghost use Rattle.sector_disk.specs.Files.{HasRun, HasRunMarked};
 ghost use Rattle.sector_disk.specs.Parts.{file_image, IsPart, AreZerosElse, HasEnds};
 ghost use Rattle.sector_disk.specs.Disk.{sector, EndsInZeros};
@@ -66,11 +66,8 @@ impl<F: DiskFile + Drop> PartFile<F> {
         let Ok(count) = lock_and_count(&mut file) else {
             return Err(FileFault::Failed);
         };
-        let sectors = Sectors::zeros(alloc, count)?;
+        let (sectors, loaded, ends, buffer) = unread(alloc, count)?;
         sectors.tell_whole();
-        let loaded = Numbers::zeros(alloc, count)?;
-        let ends = Numbers::zeros(alloc, count)?;
-        let buffer = new_buffer(alloc, PIECE)?;
         Ok(PartFile {
             file,
             sectors,
@@ -249,6 +246,23 @@ impl<F: DiskFile + Drop> PartFile<F> {
         let PartFile { file, .. } = self;
         file
     }
+}
+
+// What is kept of a file of so many sectors before one is read, and room for a piece of it.
+fn unread(
+    alloc: Global,
+    count: u32,
+) -> Result<(Sectors, Numbers, Numbers, Vec<[u8; 512]>), AllocError>
+    ensures sectors { IfOk result (λ parts. parts.0.shown ≡ replicate count (replicate 512 0)) }
+    ensures loaded { IfOk result (λ parts. parts.1 ≡ replicate count 0) }
+    ensures ends { IfOk result (λ parts. parts.2 ≡ replicate count 0) }
+    ensures buffer { IfOk result (λ parts. 0 < length parts.3.items) }
+{
+    let sectors = Sectors::zeros(alloc, count)?;
+    let loaded = Numbers::zeros(alloc, count)?;
+    let ends = Numbers::zeros(alloc, count)?;
+    let buffer = new_buffer(alloc, PIECE)?;
+    Ok((sectors, loaded, ends, buffer))
 }
 
 // Keeps neighbours in memory that the file has.

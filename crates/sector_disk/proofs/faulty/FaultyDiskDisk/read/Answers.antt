@@ -1,15 +1,19 @@
-use Rattle.std.proofs.Common.{◌∙◌, arith}
+use Rattle.std.proofs.Common.{◌≡◌, ◌∙◌, arith, rules, subst}
+use Rattle.std.specs.Prelude.{OnOk}
+use Rattle.sector_disk.specs.Disk.{sector}
+use Rattle.sector_disk.specs.Faults.{faulty_state}
 use Rattle.sector_disk.proofs.Passing.{cause, same, time}
 use Rattle.sector_disk.proofs.faulty.FaultyDiskDisk.read.Goals as goal
 
-pub returns-clause-same : goal.returns-clause-same
-returns-clause-same g c = same g.D.Disk.state (c.self.view_is ∙ c.in_ok-pass_read.ensures.failures) c.read.ensures.same
-
-pub returns-clause-time : goal.returns-clause-time
-returns-clause-time g c = time g.D.Disk.state (c.self.view_is ∙ c.in_ok-pass_read.ensures.failures) c.read.ensures.time
-
-pub returns-clause-cause : goal.returns-clause-cause
-returns-clause-cause g c = cause g.D.Disk.state (c.self.view_is ∙ c.in_ok-pass_read.ensures.failures) c.read.ensures.cause
-
-pub returns-clause-worn : goal.returns-clause-worn
-returns-clause-worn g c = λ worn. absurd (omega (arith, worn, c.in_ok-pass_read.ensures.worn))
+pub returns : goal.returns
+returns g c =
+    let state = g.D.Disk.state in
+    let here = c.self.view_is ∙ c.in_ok-pass_read.ensures.failures in
+    record {
+      content = subst (λ faulty. OnOk c.read.result (c.read.new.to ≡ sector (faulty_state state faulty).seen c.args.n)) here c.read.ensures.content;
+      same = same state here c.read.ensures.same;
+      time = time state here c.read.ensures.time;
+      cause = cause state here c.read.ensures.cause;
+      quiet = search rules;
+      worn = λ worn. absurd (omega (arith, worn, c.in_ok-pass_read.ensures.worn));
+    }
