@@ -1,9 +1,10 @@
 -- A call of a disk that does nothing and tells of it: the failure is counted.
-use Rattle.std.proofs.Common.{◌≡◌, ◌⊎◌, inl, inr, ℕ, ◌+◌, ◌-◌, ◌^◌, ◌<◌, List, arith, refl, sym, subst}
+use Rattle.std.proofs.Common.{◌≡◌, ◌⊎◌, inl, inr, ℕ, ◌+◌, ◌-◌, ◌^◌, ◌<◌, ◌∙◌, List, ap, arith, refl, sym, subst}
 use Rattle.std.proofs.lemmas.Bool.{cases_lt, true≢false}
 use Rattle.std.specs.Prelude.{Result, Ok, Err, IsErr, OnErr, min}
 use Rattle.sector_disk.specs.Disk.{DiskState, ChangesOnly, Elapses, HasCause, HasWriteCause, IsSame}
 use Rattle.sector_disk.specs.Record.{Past, recorded_state}
+use Rattle.sector_disk.specs.declared.memory.MemDisk.{MemDisk}
 
 -- nothing but the count has changed
 pub record IsRefused {T E : Type 0} (old new : DiskState) (result : Result T E) : Type 0 where
@@ -27,8 +28,14 @@ refused_here past f g (Err e) is fits counted = record {
   told = record { later = omega (arith, counted, fits); fault = grows f g counted; quiet = tt };
 }
 
-pub refused : {T E : Type 0} (past later : Past) (f g : ℕ) (result : Result T E) → later ≡ past → IsErr result → f < 2 ^ 64 → g ≡ min (f + 1) (2 ^ 64 - 1) → IsRefused (recorded_state past f) (recorded_state later g) result
+refused : {T E : Type 0} (past later : Past) (f g : ℕ) (result : Result T E) → later ≡ past → IsErr result → f < 2 ^ 64 → g ≡ min (f + 1) (2 ^ 64 - 1) → IsRefused (recorded_state past f) (recorded_state later g) result
 refused past later f g result same is fits counted = subst (λ (p : Past). IsRefused (recorded_state past f) (recorded_state p g) result) (sym same) (refused_here past f g result is fits counted)
+
+-- of a disk in memory that another call has left as it was
+pub refused_disk : {T E : Type 0} (old was new : MemDisk) (result : Result T E) → was ≡ old → new.history ≡ was.history → new.failures ≡ min (was.failures + 1) (2 ^ 64 - 1) → IsErr result
+    → IsRefused (recorded_state old.history old.failures) (recorded_state new.history new.failures) result
+refused_disk old was new result same past counted is =
+    refused old.history new.history old.failures new.failures result (past ∙ ap (λ (m : MemDisk). m.history) same) is old.counted (counted ∙ ap (λ (m : MemDisk). min (m.failures + 1) (2 ^ 64 - 1)) same)
 
 -- where nothing has changed, nothing but a write has
 pub changes_none : {old new : DiskState} {n : ℕ} {content : List ℕ} → IsSame old new → ChangesOnly old new n content
