@@ -6,7 +6,7 @@ use Rattle.redo_journal.specs.Batch.{targets}
 use Rattle.redo_journal.specs.States.{log_at}
 use Rattle.redo_journal.proofs.Meaning.{alone_next, batch_replayed, filled, header_same, idle_ready, placed_from, placed_next, ready_reads, same_joined, same_map, targets_keep}
 use Rattle.redo_journal.proofs.Used.{idle_stands, targets_stand}
-use Rattle.redo_journal.proofs.Causes.{cause_of_none, cause_on, cause_then, told_of_none, told_on, told_then}
+use Rattle.redo_journal.proofs.Causes.{cause_on, cause_then, told_on, told_then}
 use Rattle.redo_journal.proofs.commit.install_batch.Goals as goal
 
 pub put_in_place-requires-clause-rest : goal.put_in_place-requires-clause-rest
@@ -77,51 +77,8 @@ put_in_place-requires-clause-log g c = c.requires.sealed.log
 pub write_targets-requires : goal.write_targets-requires
 write_targets-requires g c = (c.requires.sealed.at_rest (filled c.args.batch.now.entries (λ none. true≢false (sym (c.if-is_empty.ensures.1 none))))).commit.valid.in_range
 
--- what each end tells
-pub returns-then-is_empty-clause-next : goal.returns-then-is_empty-clause-next
-returns-then-is_empty-clause-next g c = refl
-
-pub returns-then-is_empty-clause-empty : goal.returns-then-is_empty-clause-empty
-returns-then-is_empty-clause-empty g c = λ none. (refl, refl)
-
-pub returns-then-is_empty-clause-size : goal.returns-then-is_empty-clause-size
-returns-then-is_empty-clause-size g c = refl
-
-pub returns-then-is_empty-clause-cause : goal.returns-then-is_empty-clause-cause
-returns-then-is_empty-clause-cause g c = cause_of_none
-
-pub returns-then-is_empty-clause-told : goal.returns-then-is_empty-clause-told
-returns-then-is_empty-clause-told g c = told_of_none
-
-pub returns-in_err-put_in_place-clause-ready : goal.returns-in_err-put_in_place-clause-ready
-returns-in_err-put_in_place-clause-ready g c = IfOk-from_err c.from_residual.result _ c.from_residual.ensures.0
-
-pub returns-in_err-put_in_place-clause-next : goal.returns-in_err-put_in_place-clause-next
-returns-in_err-put_in_place-clause-next g c = IfOk-from_err c.from_residual.result _ c.from_residual.ensures.0
-
-pub returns-in_err-put_in_place-clause-stands : goal.returns-in_err-put_in_place-clause-stands
-returns-in_err-put_in_place-clause-stands g c = λ some. IfOk-from_err c.from_residual.result _ c.from_residual.ensures.0
-
-pub returns-in_err-put_in_place-clause-any_moment : goal.returns-in_err-put_in_place-clause-any_moment
-returns-in_err-put_in_place-clause-any_moment g c = c.put_in_place.ensures.any_moment
-
-pub returns-in_err-put_in_place-clause-empty : goal.returns-in_err-put_in_place-clause-empty
-returns-in_err-put_in_place-clause-empty g c = λ none. absurd (let some : 0 < length c.args.batch.now.entries = filled c.args.batch.now.entries (λ none. true≢false (sym (c.if-is_empty.ensures.1 none))) in omega (arith, none, some))
-
-pub returns-in_err-put_in_place-clause-size : goal.returns-in_err-put_in_place-clause-size
-returns-in_err-put_in_place-clause-size g c = c.put_in_place.ensures.size
-
-pub returns-in_err-put_in_place-clause-cause : goal.returns-in_err-put_in_place-clause-cause
-returns-in_err-put_in_place-clause-cause g c = cause_on c.from_residual.result c.from_residual.ensures.0 c.in_err-put_in_place.ensures.cause
-
-pub returns-in_err-put_in_place-clause-told : goal.returns-in_err-put_in_place-clause-told
-returns-in_err-put_in_place-clause-told g c = told_on c.from_residual.result c.from_residual.ensures.0 c.in_err-put_in_place.ensures.told
-
 pub returns-then-header-eq0-clause-empty : goal.returns-then-header-eq0-clause-empty
 returns-then-header-eq0-clause-empty g c = λ none. absurd (let some : 0 < length c.args.batch.now.entries = filled c.args.batch.now.entries (λ none. true≢false (sym (c.if-is_empty.ensures.1 none))) in omega (arith, none, some))
-
-pub returns-then-header-eq0-clause-size : goal.returns-then-header-eq0-clause-size
-returns-then-header-eq0-clause-size g c = c.clear_commit.ensures.size ∙ c.put_in_place.ensures.size
 
 pub returns-then-header-eq0-clause-cause : goal.returns-then-header-eq0-clause-cause
 returns-then-header-eq0-clause-cause g c = cause_then c.put_in_place.ensures.cause c.clear_commit.ensures.cause
@@ -132,11 +89,10 @@ returns-then-header-eq0-clause-told g c = told_then c.in_ok-put_in_place.ensures
 pub returns-clause-empty : goal.returns-clause-empty
 returns-clause-empty g c = λ none. absurd (let some : 0 < length c.args.batch.now.entries = filled c.args.batch.now.entries (λ none. true≢false (sym (c.if-is_empty.ensures.1 none))) in omega (arith, none, some))
 
-pub returns-clause-size : goal.returns-clause-size
-returns-clause-size g c = c.write_targets.ensures.adds.size
-
-pub returns-clause-cause : goal.returns-clause-cause
-returns-clause-cause g c = c.write_targets.ensures.cause
-
-pub returns-clause-told : goal.returns-clause-told
-returns-clause-told g c = c.write_targets.ensures.told
+pub returns-in_err-put_in_place : goal.returns-in_err-put_in_place
+returns-in_err-put_in_place g c =
+    let r = c.from_residual.result in
+    let err = c.from_residual.ensures.0 in
+    let some : 0 < length c.args.batch.now.entries = filled c.args.batch.now.entries (λ none. true≢false (sym (c.if-is_empty.ensures.1 none))) in
+    let done = c.put_in_place.ensures in
+    record { ready = IfOk-from_err r _ err; next = IfOk-from_err r _ err; stands = λ filled. IfOk-from_err r _ err; any_moment = done.any_moment; empty = λ none. absurd (omega (arith, none, some)); size = done.size; cause = cause_on r err c.in_err-put_in_place.ensures.cause; told = told_on r err c.in_err-put_in_place.ensures.told }

@@ -1,4 +1,4 @@
-use Rattle.std.proofs.Common.{◌≡◌, ◌<◌, ℕ, length, sym, ◌∙◌, ap, subst, arith, Bool, false, List, [], ◌∷◌, eqb, refl}
+use Rattle.std.proofs.Common.{◌≡◌, ◌<◌, ℕ, length, sym, ◌∙◌, ap, subst, arith, Bool, false, List, [], ◌∷◌, eqb}
 use Rattle.std.proofs.lemmas.Bool.{eqb-true, eq-eqb, true≢false}
 use Rattle.redo_journal.proofs.Entries.{length-targets}
 use Rattle.std.proofs.lemmas.Result.{on_ok_weaker, IfOk-from_err}
@@ -10,22 +10,13 @@ use Rattle.redo_journal.specs.Meaning.{ReadsAs, data_of}
 use Rattle.redo_journal.proofs.Meaning.{adds_joined, log_keeps, logged_from, logged_others, next_same, nothing_logged, nothing_valid, or_joined, others_low, ready_reads}
 use Rattle.redo_journal.specs.Batch.{Entry, targets}
 use Rattle.redo_journal.proofs.Placing.{log_fits}
-use Rattle.redo_journal.proofs.Causes.{cause_of_none, cause_on, cause_then, told_of_none, told_on, told_then}
+use Rattle.redo_journal.proofs.Causes.{cause_on, cause_then, told_on, told_then}
 use Rattle.redo_journal.proofs.commit.log_batch.Goals as goal
 
 -- images while header and log are written read as before
 keeps : (header area : ℕ) (disk : DiskState) → IsReady disk → HasHeader header disk → HasNext area disk → (image : Image) → IsImageOr (InLog header area) disk image → ReadsAs disk.size (data_of disk) image
 keeps header area disk ready has next image is =
     log_keeps disk ready image (subst (λ (a : ℕ). IsImageOr (InLog (header_of (sector disk.seen 0)) a) disk image) next (subst (λ (h : ℕ). IsImageOr (InLog h area) disk image) has.is is))
-
-pub returns-in_err-write_header-clause-any_moment : goal.returns-in_err-write_header-clause-any_moment
-returns-in_err-write_header-clause-any_moment g c =
-    weaker (keeps c.args.header c.args.area (g.D.Disk.state c.args.disk.now) c.requires.ready c.requires.header c.requires.next) c.write_header.ensures.any_moment
-
-pub returns-in_err-write_log-clause-any_moment : goal.returns-in_err-write_log-clause-any_moment
-returns-in_err-write_log-clause-any_moment g c =
-    let keep = keeps c.args.header c.args.area (g.D.Disk.state c.args.disk.now) c.requires.ready c.requires.header c.requires.next in
-    joined (weaker keep c.write_header.ensures.any_moment) (weaker (λ image is. keep image (or_joined c.write_header.ensures.adds image is)) c.write_log.ensures.any_moment)
 
 pub returns-clause-any_moment : goal.returns-clause-any_moment
 returns-clause-any_moment g c =
@@ -74,58 +65,6 @@ write_header-requires-clause-room g c = log_fits c.args.batch.now.entries c.args
 pub write_log-requires-clause-room : goal.write_log-requires-clause-room
 write_log-requires-clause-room g c = let fits = log_fits c.args.batch.now.entries c.args.header (g.D.Disk.state c.args.disk.now).size (some_in c.is_empty.result c.sectors.result.now c.args.batch.now.entries c.is_empty.ensures c.sectors.ensures.sectors c.if-is_empty.false) c.requires.on_disk in omega (arith, fits, c.write_header.ensures.adds.size)
 
--- what each end tells
-pub returns-then-is_empty-clause-next : goal.returns-then-is_empty-clause-next
-returns-then-is_empty-clause-next g c = c.requires.next
-
-pub returns-then-is_empty-clause-empty : goal.returns-then-is_empty-clause-empty
-returns-then-is_empty-clause-empty g c = λ none. (refl, refl)
-
-pub returns-then-is_empty-clause-size : goal.returns-then-is_empty-clause-size
-returns-then-is_empty-clause-size g c = refl
-
-pub returns-then-is_empty-clause-cause : goal.returns-then-is_empty-clause-cause
-returns-then-is_empty-clause-cause g c = cause_of_none
-
-pub returns-then-is_empty-clause-told : goal.returns-then-is_empty-clause-told
-returns-then-is_empty-clause-told g c = told_of_none
-
-pub returns-in_err-write_header-clause-logged : goal.returns-in_err-write_header-clause-logged
-returns-in_err-write_header-clause-logged g c = IfOk-from_err c.from_residual.result _ c.from_residual.ensures.0
-
-pub returns-in_err-write_header-clause-next : goal.returns-in_err-write_header-clause-next
-returns-in_err-write_header-clause-next g c = IfOk-from_err c.from_residual.result _ c.from_residual.ensures.0
-
-pub returns-in_err-write_header-clause-empty : goal.returns-in_err-write_header-clause-empty
-returns-in_err-write_header-clause-empty g c = λ none. absurd (let some : 0 < length c.args.batch.now.entries = some_in c.is_empty.result c.sectors.result.now c.args.batch.now.entries c.is_empty.ensures c.sectors.ensures.sectors c.if-is_empty.false in omega (arith, none, some))
-
-pub returns-in_err-write_header-clause-size : goal.returns-in_err-write_header-clause-size
-returns-in_err-write_header-clause-size g c = c.write_header.ensures.adds.size
-
-pub returns-in_err-write_header-clause-cause : goal.returns-in_err-write_header-clause-cause
-returns-in_err-write_header-clause-cause g c = cause_on c.from_residual.result c.from_residual.ensures.0 c.in_err-write_header.ensures.cause
-
-pub returns-in_err-write_header-clause-told : goal.returns-in_err-write_header-clause-told
-returns-in_err-write_header-clause-told g c = told_on c.from_residual.result c.from_residual.ensures.0 c.in_err-write_header.ensures.told
-
-pub returns-in_err-write_log-clause-logged : goal.returns-in_err-write_log-clause-logged
-returns-in_err-write_log-clause-logged g c = IfOk-from_err c.from_residual-in_err-write_log.result _ c.from_residual-in_err-write_log.ensures.0
-
-pub returns-in_err-write_log-clause-next : goal.returns-in_err-write_log-clause-next
-returns-in_err-write_log-clause-next g c = IfOk-from_err c.from_residual-in_err-write_log.result _ c.from_residual-in_err-write_log.ensures.0
-
-pub returns-in_err-write_log-clause-empty : goal.returns-in_err-write_log-clause-empty
-returns-in_err-write_log-clause-empty g c = λ none. absurd (let some : 0 < length c.args.batch.now.entries = some_in c.is_empty.result c.sectors.result.now c.args.batch.now.entries c.is_empty.ensures c.sectors.ensures.sectors c.if-is_empty.false in omega (arith, none, some))
-
-pub returns-in_err-write_log-clause-size : goal.returns-in_err-write_log-clause-size
-returns-in_err-write_log-clause-size g c = c.write_log.ensures.adds.size ∙ c.write_header.ensures.adds.size
-
-pub returns-in_err-write_log-clause-cause : goal.returns-in_err-write_log-clause-cause
-returns-in_err-write_log-clause-cause g c = cause_on c.from_residual-in_err-write_log.result c.from_residual-in_err-write_log.ensures.0 (cause_then c.write_header.ensures.cause c.in_err-write_log.ensures.cause)
-
-pub returns-in_err-write_log-clause-told : goal.returns-in_err-write_log-clause-told
-returns-in_err-write_log-clause-told g c = told_on c.from_residual-in_err-write_log.result c.from_residual-in_err-write_log.ensures.0 (told_then c.in_ok-write_header.ensures.told c.in_err-write_log.ensures.told)
-
 pub returns-clause-empty : goal.returns-clause-empty
 returns-clause-empty g c = λ none. absurd (let some : 0 < length c.args.batch.now.entries = some_in c.is_empty.result c.sectors.result.now c.args.batch.now.entries c.is_empty.ensures c.sectors.ensures.sectors c.if-is_empty.false in omega (arith, none, some))
 
@@ -137,3 +76,22 @@ returns-clause-cause g c = cause_then c.write_header.ensures.cause (cause_then c
 
 pub returns-clause-told : goal.returns-clause-told
 returns-clause-told g c = told_then c.in_ok-write_header.ensures.told (told_then c.in_ok-write_log.ensures.told c.sync.ensures.told)
+
+pub returns-in_err-write_header : goal.returns-in_err-write_header
+returns-in_err-write_header g c =
+    let r = c.from_residual.result in
+    let err = c.from_residual.ensures.0 in
+    let keep = keeps c.args.header c.args.area (g.D.Disk.state c.args.disk.now) c.requires.ready c.requires.header c.requires.next in
+    let some : 0 < length c.args.batch.now.entries =
+    some_in c.is_empty.result c.sectors.result.now c.args.batch.now.entries c.is_empty.ensures c.sectors.ensures.sectors c.if-is_empty.false in
+    record { logged = IfOk-from_err r _ err; next = IfOk-from_err r _ err; any_moment = weaker keep c.write_header.ensures.any_moment; empty = λ none. absurd (omega (arith, none, some)); size = c.write_header.ensures.adds.size; cause = cause_on r err c.in_err-write_header.ensures.cause; told = told_on r err c.in_err-write_header.ensures.told }
+
+pub returns-in_err-write_log : goal.returns-in_err-write_log
+returns-in_err-write_log g c =
+    let keep = keeps c.args.header c.args.area (g.D.Disk.state c.args.disk.now) c.requires.ready c.requires.header c.requires.next in
+    let some : 0 < length c.args.batch.now.entries =
+    some_in c.is_empty.result c.sectors.result.now c.args.batch.now.entries c.is_empty.ensures c.sectors.ensures.sectors c.if-is_empty.false in
+    let r = c.from_residual-in_err-write_log.result in
+    let err = c.from_residual-in_err-write_log.ensures.0 in
+    let before = c.write_header.ensures in
+    record { logged = IfOk-from_err r _ err; next = IfOk-from_err r _ err; any_moment = joined (weaker keep before.any_moment) (weaker (λ image is. keep image (or_joined before.adds image is)) c.write_log.ensures.any_moment); empty = λ none. absurd (omega (arith, none, some)); size = c.write_log.ensures.adds.size ∙ before.adds.size; cause = cause_on r err (cause_then before.cause c.in_err-write_log.ensures.cause); told = told_on r err (told_then c.in_ok-write_header.ensures.told c.in_err-write_log.ensures.told) }

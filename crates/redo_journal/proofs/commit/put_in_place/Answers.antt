@@ -1,10 +1,9 @@
-use Rattle.std.proofs.Common.{sym, subst, ◌∙◌}
-use Rattle.std.proofs.lemmas.Result.{on_ok_weaker, IfOk-from_err}
+use Rattle.std.proofs.Common.{sym, subst}
+use Rattle.std.proofs.lemmas.Result.{on_ok_weaker}
 use Rattle.sector_disk.proofs.Moments.{adds_narrowed, image_or, weaker}
 use Rattle.redo_journal.specs.Batch.{targets}
 use Rattle.redo_journal.proofs.Meaning.{targets_keep, targets_synced, installed_from, batch_replayed}
 use Rattle.redo_journal.specs.States.{log_at, HoldsTargets}
-use Rattle.redo_journal.proofs.Causes.{cause_on, cause_then, told_on, told_then}
 use Rattle.redo_journal.proofs.commit.put_in_place.Goals as goal
 
 pub returns-in_err-write_targets-clause-any_moment : goal.returns-in_err-write_targets-clause-any_moment
@@ -27,25 +26,3 @@ returns-clause-installed g c =
     on_ok_weaker c.sync.result
     (installed_from (targets entries) before after c.requires.rest image adds.size (batch_replayed (log_at before.seen) entries before.seen after.seen c.requires.log in_place))
     c.sync.ensures.stable
-
--- what each end tells
-pub returns-in_err-write_targets-clause-installed : goal.returns-in_err-write_targets-clause-installed
-returns-in_err-write_targets-clause-installed g c = IfOk-from_err c.from_residual.result _ c.from_residual.ensures.0
-
-pub returns-in_err-write_targets-clause-size : goal.returns-in_err-write_targets-clause-size
-returns-in_err-write_targets-clause-size g c = c.write_targets.ensures.adds.size
-
-pub returns-in_err-write_targets-clause-cause : goal.returns-in_err-write_targets-clause-cause
-returns-in_err-write_targets-clause-cause g c = cause_on c.from_residual.result c.from_residual.ensures.0 c.in_err-write_targets.ensures.cause
-
-pub returns-in_err-write_targets-clause-told : goal.returns-in_err-write_targets-clause-told
-returns-in_err-write_targets-clause-told g c = told_on c.from_residual.result c.from_residual.ensures.0 c.in_err-write_targets.ensures.told
-
-pub returns-clause-size : goal.returns-clause-size
-returns-clause-size g c = c.sync.ensures.changes.size ∙ c.write_targets.ensures.adds.size
-
-pub returns-clause-cause : goal.returns-clause-cause
-returns-clause-cause g c = cause_then c.write_targets.ensures.cause c.sync.ensures.cause
-
-pub returns-clause-told : goal.returns-clause-told
-returns-clause-told g c = told_then c.in_ok-write_targets.ensures.told c.sync.ensures.told

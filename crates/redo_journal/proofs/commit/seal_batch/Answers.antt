@@ -8,14 +8,9 @@ use Rattle.redo_journal.specs.Batch.{targets, with_batch}
 use Rattle.redo_journal.specs.States.{next_at}
 use Rattle.redo_journal.specs.Meaning.{data_of, ReadsAs}
 use Rattle.redo_journal.proofs.Meaning.{filled, nothing_is_sealed, nothing_sealed, ready_reads, seal_either, sealed_from, sealed_next, sealed_reads}
-use Rattle.redo_journal.proofs.Causes.{cause_at_ok, cause_of_none, cause_on, told_at_ok, told_of_none, told_on}
+use Rattle.redo_journal.proofs.Causes.{cause_at_ok, cause_on, told_at_ok, told_on}
 use Rattle.std.proofs.lemmas.Result.{IfOk-from_err}
 use Rattle.redo_journal.proofs.commit.seal_batch.Goals as goal
-
-pub returns-in_err-write_synced-clause-any_moment : goal.returns-in_err-write_synced-clause-any_moment
-returns-in_err-write_synced-clause-any_moment g c =
-    let some : 0 < length c.args.batch.now.entries = filled c.args.batch.now.entries (λ none. true≢false (sym (c.if-is_empty.ensures.1 none))) in
-    weaker (seal_either c.args.batch.now.entries _ c.args.area (g.D.Disk.state c.args.disk.now) some c.requires.next c.commit_sector.ensures c.requires.logged) c.write_synced.ensures.any_moment
 
 pub returns-clause-any_moment : goal.returns-clause-any_moment
 returns-clause-any_moment g c =
@@ -61,51 +56,18 @@ pub returns-then-is_empty-clause-sealed : goal.returns-then-is_empty-clause-seal
 returns-then-is_empty-clause-sealed g c =
     nothing_is_sealed c.args.batch.now.entries (g.D.Disk.state c.args.disk.now) c.requires.logged (ap length (c.if-is_empty.ensures.0 refl))
 
--- what each end tells
-pub returns-then-is_empty-clause-next : goal.returns-then-is_empty-clause-next
-returns-then-is_empty-clause-next g c = c.requires.next
-
-pub returns-then-is_empty-clause-empty : goal.returns-then-is_empty-clause-empty
-returns-then-is_empty-clause-empty g c = λ none. (refl, refl)
-
-pub returns-then-is_empty-clause-size : goal.returns-then-is_empty-clause-size
-returns-then-is_empty-clause-size g c = refl
-
-pub returns-then-is_empty-clause-cause : goal.returns-then-is_empty-clause-cause
-returns-then-is_empty-clause-cause g c = cause_of_none
-
-pub returns-then-is_empty-clause-told : goal.returns-then-is_empty-clause-told
-returns-then-is_empty-clause-told g c = told_of_none
-
-pub returns-in_err-write_synced-clause-sealed : goal.returns-in_err-write_synced-clause-sealed
-returns-in_err-write_synced-clause-sealed g c = IfOk-from_err c.from_residual.result _ c.from_residual.ensures.0
-
-pub returns-in_err-write_synced-clause-next : goal.returns-in_err-write_synced-clause-next
-returns-in_err-write_synced-clause-next g c = IfOk-from_err c.from_residual.result _ c.from_residual.ensures.0
-
-pub returns-in_err-write_synced-clause-lasting : goal.returns-in_err-write_synced-clause-lasting
-returns-in_err-write_synced-clause-lasting g c = IfOk-from_err c.from_residual.result _ c.from_residual.ensures.0
-
-pub returns-in_err-write_synced-clause-empty : goal.returns-in_err-write_synced-clause-empty
-returns-in_err-write_synced-clause-empty g c = λ none. absurd (let some : 0 < length c.args.batch.now.entries = filled c.args.batch.now.entries (λ none. true≢false (sym (c.if-is_empty.ensures.1 none))) in omega (arith, none, some))
-
-pub returns-in_err-write_synced-clause-size : goal.returns-in_err-write_synced-clause-size
-returns-in_err-write_synced-clause-size g c = c.write_synced.ensures.adds.size
-
-pub returns-in_err-write_synced-clause-cause : goal.returns-in_err-write_synced-clause-cause
-returns-in_err-write_synced-clause-cause g c = cause_on c.from_residual.result c.from_residual.ensures.0 c.in_err-write_synced.ensures.cause
-
-pub returns-in_err-write_synced-clause-told : goal.returns-in_err-write_synced-clause-told
-returns-in_err-write_synced-clause-told g c = told_on c.from_residual.result c.from_residual.ensures.0 c.in_err-write_synced.ensures.told
-
 pub returns-clause-empty : goal.returns-clause-empty
 returns-clause-empty g c = λ none. absurd (let some : 0 < length c.args.batch.now.entries = filled c.args.batch.now.entries (λ none. true≢false (sym (c.if-is_empty.ensures.1 none))) in omega (arith, none, some))
-
-pub returns-clause-size : goal.returns-clause-size
-returns-clause-size g c = c.write_synced.ensures.adds.size
 
 pub returns-clause-cause : goal.returns-clause-cause
 returns-clause-cause g c = cause_at_ok c.in_ok-write_synced.ensures.cause
 
 pub returns-clause-told : goal.returns-clause-told
 returns-clause-told g c = told_at_ok c.in_ok-write_synced.ensures.told
+
+pub returns-in_err-write_synced : goal.returns-in_err-write_synced
+returns-in_err-write_synced g c =
+    let some : 0 < length c.args.batch.now.entries = filled c.args.batch.now.entries (λ none. true≢false (sym (c.if-is_empty.ensures.1 none))) in
+    let r = c.from_residual.result in
+    let err = c.from_residual.ensures.0 in
+    record { sealed = IfOk-from_err r _ err; next = IfOk-from_err r _ err; lasting = IfOk-from_err r _ err; any_moment = weaker (seal_either c.args.batch.now.entries _ c.args.area (g.D.Disk.state c.args.disk.now) some c.requires.next c.commit_sector.ensures c.requires.logged) c.write_synced.ensures.any_moment; empty = λ none. absurd (omega (arith, none, some)); size = c.write_synced.ensures.adds.size; cause = cause_on r err c.in_err-write_synced.ensures.cause; told = told_on r err c.in_err-write_synced.ensures.told }

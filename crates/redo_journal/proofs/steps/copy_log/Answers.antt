@@ -9,13 +9,6 @@ use Rattle.std.proofs.lemmas.Result.{IfOk-from_err}
 use Rattle.redo_journal.proofs.Causes.{cause_on, cause_since, cause_then}
 use Rattle.redo_journal.proofs.steps.copy_log.Goals as goal
 
-pub returns-in_err-write-clause-any_moment : goal.returns-in_err-write-clause-any_moment
-returns-in_err-write-clause-any_moment g c =
-    let so_far = c.loop-target.invariant in
-    let read = adds_narrowed so_far.adds c.read.ensures.same.narrowed in
-    let adds = adds_write read c.write.ensures.changes (λ k content is same. in_at c.args.sectors.now c.loop-target.target-index k content c.loop-target-test.true is) in
-    goes_on (goes_on so_far.since c.read.ensures.time (image_or read)) c.write.ensures.time (image_or adds)
-
 pub loop-target-preserved : goal.loop-target-preserved
 loop-target-preserved g c =
     let so_far = c.loop-target.invariant in
@@ -69,44 +62,34 @@ write-requires g c =
     let range = range_at c.args.header (g.D.Disk.state c.args.disk.now).size c.args.sectors.now so_far.valid c.loop-target.target-index c.loop-target-test.true in
     omega (arith, range.1, so_far.adds.size, c.read.ensures.same.narrowed.size)
 
-pub returns-in_err-read-clause-written : goal.returns-in_err-read-clause-written
-returns-in_err-read-clause-written g c = IfOk-from_err c.from_residual.result _ c.from_residual.ensures.0
-
-pub returns-in_err-read-clause-adds : goal.returns-in_err-read-clause-adds
-returns-in_err-read-clause-adds g c = adds_narrowed c.loop-target.invariant.adds c.read.ensures.same.narrowed
-
-pub returns-in_err-read-clause-any_moment : goal.returns-in_err-read-clause-any_moment
-returns-in_err-read-clause-any_moment g c = goes_on c.loop-target.invariant.since c.read.ensures.time (image_or (adds_narrowed c.loop-target.invariant.adds c.read.ensures.same.narrowed))
-
-pub returns-in_err-read-clause-cause : goal.returns-in_err-read-clause-cause
-returns-in_err-read-clause-cause g c = cause_on c.from_residual.result c.from_residual.ensures.0 (cause_since c.loop-target.invariant.failures c.in_err-read.ensures.cause)
-
-pub returns-in_err-read-clause-counted : goal.returns-in_err-read-clause-counted
-returns-in_err-read-clause-counted g c = record { later = omega (arith, c.loop-target.invariant.failed_writes, c.read.ensures.quiet); quiet = IfOk-from_err c.from_residual.result _ c.from_residual.ensures.0 }
-
-pub returns-in_err-write-clause-written : goal.returns-in_err-write-clause-written
-returns-in_err-write-clause-written g c = IfOk-from_err c.from_residual-in_err-write.result _ c.from_residual-in_err-write.ensures.0
-
-pub returns-in_err-write-clause-adds : goal.returns-in_err-write-clause-adds
-returns-in_err-write-clause-adds g c = adds_write (adds_narrowed c.loop-target.invariant.adds c.read.ensures.same.narrowed) c.write.ensures.changes (λ k content is same. in_at c.args.sectors.now c.loop-target.target-index k content c.loop-target-test.true is)
-
-pub returns-in_err-write-clause-cause : goal.returns-in_err-write-clause-cause
-returns-in_err-write-clause-cause g c = cause_on c.from_residual-in_err-write.result c.from_residual-in_err-write.ensures.0 (cause_since c.loop-target.invariant.failures (cause_then c.read.ensures.cause c.in_err-write.ensures.cause))
-
-pub returns-in_err-write-clause-counted : goal.returns-in_err-write-clause-counted
-returns-in_err-write-clause-counted g c = record { later = omega (arith, c.loop-target.invariant.failed_writes, c.read.ensures.quiet, c.write.ensures.told.later); quiet = IfOk-from_err c.from_residual-in_err-write.result _ c.from_residual-in_err-write.ensures.0 }
-
 pub returns-clause-written : goal.returns-clause-written
 returns-clause-written g c = λ k lt. c.loop-target.invariant.written k (omega (arith, lt, c.loop-target-test.false))
-
-pub returns-clause-adds : goal.returns-clause-adds
-returns-clause-adds g c = c.loop-target.invariant.adds
-
-pub returns-clause-any_moment : goal.returns-clause-any_moment
-returns-clause-any_moment g c = c.loop-target.invariant.since
 
 pub returns-clause-cause : goal.returns-clause-cause
 returns-clause-cause g c = record { later = c.loop-target.invariant.failures; fault = tt }
 
 pub returns-clause-counted : goal.returns-clause-counted
 returns-clause-counted g c = let quiet = c.loop-target.invariant.failed_writes in record { later = omega (arith, quiet); quiet = quiet }
+
+pub returns-in_err-read : goal.returns-in_err-read
+returns-in_err-read g c =
+    let r = c.from_residual.result in
+    let err = c.from_residual.ensures.0 in
+    let so_far = c.loop-target.invariant in
+    let adds = adds_narrowed so_far.adds c.read.ensures.same.narrowed in
+    record { written = IfOk-from_err r _ err; adds = adds; any_moment = goes_on so_far.since c.read.ensures.time (image_or adds); cause = cause_on r err (cause_since so_far.failures c.in_err-read.ensures.cause); counted = record { later = omega (arith, so_far.failed_writes, c.read.ensures.quiet); quiet = IfOk-from_err r _ err } }
+
+pub returns-in_err-write : goal.returns-in_err-write
+returns-in_err-write g c =
+    let so_far = c.loop-target.invariant in
+    let read = adds_narrowed so_far.adds c.read.ensures.same.narrowed in
+    let adds = adds_write read c.write.ensures.changes (λ k content is same. in_at c.args.sectors.now c.loop-target.target-index k content c.loop-target-test.true is) in
+    let r = c.from_residual-in_err-write.result in
+    let err = c.from_residual-in_err-write.ensures.0 in
+    record {
+      written = IfOk-from_err r _ err;
+      adds = adds;
+      any_moment = goes_on (goes_on so_far.since c.read.ensures.time (image_or read)) c.write.ensures.time (image_or adds);
+      cause = cause_on r err (cause_since so_far.failures (cause_then c.read.ensures.cause c.in_err-write.ensures.cause));
+      counted = record { later = omega (arith, so_far.failed_writes, c.read.ensures.quiet, c.write.ensures.told.later); quiet = IfOk-from_err r _ err };
+    }

@@ -46,64 +46,42 @@ loop-at-preserved g c =
       failed_writes = c.in_ok-write.ensures.told.quiet ∙ so_far.failed_writes;
     }
 
-pub write-requires : goal.write-requires
-write-requires g c =
-    let so_far = c.loop-at.invariant in
-    let at = c.loop-at.at in
-    let begins : 126 + 128 * at < length c.args.batch.now.entries =
-    omega (arith, c.loop-at-test.true, c.header_sectors_for-at-end.ensures, ap length c.sectors-sectors.ensures.sectors, length-targets c.args.batch.now.entries) in
-    let low : at < c.args.header = omega (arith, begins, so_far.few) in
-    let starts = c.area_start-from.ensures in
-    let range = area_room c.args.header c.args.area in
-    omega (arith, so_far.room, so_far.adds.size, low, range.1, starts)
-
-pub returns-in_err-write-clause-others : goal.returns-in_err-write-clause-others
-returns-in_err-write-clause-others g c = λ n out.
-    let so_far = c.loop-at.invariant in
-    let at = c.loop-at.at in
-    let last = g.D.Disk.state c.loop-at.disk in
-    let begins : 126 + 128 * at < length c.args.batch.now.entries =
-    omega (arith, c.loop-at-test.true, c.header_sectors_for-at-end.ensures, ap length c.sectors-sectors.ensures.sectors, length-targets c.args.batch.now.entries) in
-    let low : at < c.args.header = omega (arith, begins, so_far.few) in
-    let starts = c.area_start-from.ensures in
-    let after = g.D.Disk.state c.write.new.self in
-    ⊎_elim (λ same. ap (λ (l : Image). sector l n) same ∙ so_far.others n out)
-    (λ put. written_other last.seen after.seen (c.area_start-from.result + at) n c.header_sector.result put (λ e. out (omega (arith, e, starts)) (omega (arith, e, starts, low))) ∙ so_far.others n out)
-    c.write.ensures.changes.seen
-
-pub returns-in_err-write-clause-written : goal.returns-in_err-write-clause-written
-returns-in_err-write-clause-written g c = IfOk-from_err c.from_residual.result _ c.from_residual.ensures.0
-
-pub returns-in_err-write-clause-adds : goal.returns-in_err-write-clause-adds
-returns-in_err-write-clause-adds g c =
-    let so_far = c.loop-at.invariant in
-    let at = c.loop-at.at in
-    let begins : 126 + 128 * at < length c.args.batch.now.entries =
-    omega (arith, c.loop-at-test.true, c.header_sectors_for-at-end.ensures, ap length c.sectors-sectors.ensures.sectors, length-targets c.args.batch.now.entries) in
-    let low : at < c.args.header = omega (arith, begins, so_far.few) in
-    let starts = c.area_start-from.ensures in
-    adds_write so_far.adds c.write.ensures.changes (λ k content is same. (omega (arith, is, starts), omega (arith, is, low, starts)))
-
-pub returns-in_err-write-clause-any_moment : goal.returns-in_err-write-clause-any_moment
-returns-in_err-write-clause-any_moment g c = goes_on c.loop-at.invariant.since c.write.ensures.time (image_or (returns-in_err-write-clause-adds g c))
-
-pub returns-in_err-write-clause-cause : goal.returns-in_err-write-clause-cause
-returns-in_err-write-clause-cause g c = cause_on c.from_residual.result c.from_residual.ensures.0 (cause_since c.loop-at.invariant.failures c.in_err-write.ensures.cause)
-
-pub returns-in_err-write-clause-told : goal.returns-in_err-write-clause-told
-returns-in_err-write-clause-told g c = told_on c.from_residual.result c.from_residual.ensures.0 (told_since c.loop-at.invariant.failed_writes c.in_err-write.ensures.told)
-
-pub returns-clause-others : goal.returns-clause-others
-returns-clause-others g c = c.loop-at.invariant.others
-
-pub returns-clause-adds : goal.returns-clause-adds
-returns-clause-adds g c = c.loop-at.invariant.adds
-
-pub returns-clause-any_moment : goal.returns-clause-any_moment
-returns-clause-any_moment g c = c.loop-at.invariant.since
-
 pub returns-clause-cause : goal.returns-clause-cause
 returns-clause-cause g c = record { later = c.loop-at.invariant.failures; fault = tt }
 
 pub returns-clause-told : goal.returns-clause-told
 returns-clause-told g c = let quiet = c.loop-at.invariant.failed_writes in record { later = omega (arith, quiet); fault = tt; quiet = quiet }
+
+pub write-requires : goal.write-requires
+write-requires g c =
+    let so_far = c.loop-at.invariant in
+    let begins : 126 + 128 * c.loop-at.at < length c.args.batch.now.entries =
+    omega (arith, c.loop-at-test.true, c.header_sectors_for-at-end.ensures, ap length c.sectors-sectors.ensures.sectors, length-targets c.args.batch.now.entries) in
+    let range = area_room c.args.header c.args.area in
+    let starts = c.area_start-from.ensures in
+    omega (arith, so_far.room, so_far.few, so_far.adds.size, begins, range.1, starts)
+
+pub returns-in_err-write : goal.returns-in_err-write
+returns-in_err-write g c =
+    let r = c.from_residual.result in
+    let err = c.from_residual.ensures.0 in
+    let so_far = c.loop-at.invariant in
+    let at = c.loop-at.at in
+    let last = g.D.Disk.state c.loop-at.disk in
+    let after = g.D.Disk.state c.write.new.self in
+    let begins : 126 + 128 * at < length c.args.batch.now.entries =
+    omega (arith, c.loop-at-test.true, c.header_sectors_for-at-end.ensures, ap length c.sectors-sectors.ensures.sectors, length-targets c.args.batch.now.entries) in
+    let low : at < c.args.header = omega (arith, begins, so_far.few) in
+    let starts = c.area_start-from.ensures in
+    let adds = adds_write so_far.adds c.write.ensures.changes (λ k content is same. (omega (arith, is, starts), omega (arith, is, low, starts))) in
+    record {
+      written = IfOk-from_err r _ err;
+      others = λ n out.
+          ⊎_elim (λ same. ap (λ (l : Image). sector l n) same ∙ so_far.others n out)
+          (λ put. written_other last.seen after.seen (c.area_start-from.result + at) n c.header_sector.result put (λ e. out (omega (arith, e, starts)) (omega (arith, e, starts, low))) ∙ so_far.others n out)
+          c.write.ensures.changes.seen;
+      adds = adds;
+      any_moment = goes_on so_far.since c.write.ensures.time (image_or adds);
+      cause = cause_on r err (cause_since so_far.failures c.in_err-write.ensures.cause);
+      told = told_on r err (told_since so_far.failed_writes c.in_err-write.ensures.told);
+    }

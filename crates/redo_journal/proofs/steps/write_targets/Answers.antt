@@ -16,15 +16,6 @@ write-requires g c =
     (zip_turn _ _ c.loop-n.yielded c.into_iter-n-iterator.result c.loop-n.n-iterator c.next.new.self c.next.result (search rules) (search rules) c.loop-n.yielded_by (c.in-Some.n, c.in-Some.content) c.in-Some.is c.next.ensures.steps) in
     omega (arith, so_far.adds.size, next.1, (on_disk_at _ _ c.args.batch.now.entries (length c.loop-n.yielded) so_far.on_disk next.0).1)
 
-pub returns-in_err-write-clause-adds : goal.returns-in_err-write-clause-adds
-returns-in_err-write-clause-adds g c =
-    let next = entry_is c.args.batch.now.entries _ _ (length c.loop-n.yielded) c.in-Some.n.now c.in-Some.content.now c.sectors.ensures.sectors c.contents.ensures.contents
-    (zip_turn _ _ c.loop-n.yielded c.into_iter-n-iterator.result c.loop-n.n-iterator c.next.new.self c.next.result (search rules) (search rules) c.loop-n.yielded_by (c.in-Some.n, c.in-Some.content) c.in-Some.is c.next.ensures.steps) in
-    adds_write c.loop-n.invariant.adds c.write.ensures.changes (λ k content is same. in_targets c.args.batch.now.entries (length c.loop-n.yielded) k content next.0 (is ∙ next.1))
-
-pub returns-in_err-write-clause-any_moment : goal.returns-in_err-write-clause-any_moment
-returns-in_err-write-clause-any_moment g c = goes_on c.loop-n.invariant.since c.write.ensures.time (image_or (returns-in_err-write-clause-adds g c))
-
 pub loop-n-preserved : goal.loop-n-preserved
 loop-n-preserved g c =
     let so_far = c.loop-n.invariant in
@@ -51,29 +42,18 @@ loop-n-preserved g c =
       failed_writes = c.in_ok-write.ensures.told.quiet ∙ so_far.failed_writes;
     }
 
-pub returns-in_err-write-clause-written : goal.returns-in_err-write-clause-written
-returns-in_err-write-clause-written g c = IfOk-from_err c.from_residual.result _ c.from_residual.ensures.0
-
-pub returns-in_err-write-clause-others : goal.returns-in_err-write-clause-others
-returns-in_err-write-clause-others g c = IfOk-from_err c.from_residual.result _ c.from_residual.ensures.0
-
-pub returns-in_err-write-clause-cause : goal.returns-in_err-write-clause-cause
-returns-in_err-write-clause-cause g c = cause_on c.from_residual.result c.from_residual.ensures.0 (cause_since c.loop-n.invariant.failures c.in_err-write.ensures.cause)
-
-pub returns-in_err-write-clause-told : goal.returns-in_err-write-clause-told
-returns-in_err-write-clause-told g c = told_on c.from_residual.result c.from_residual.ensures.0 (told_since c.loop-n.invariant.failed_writes c.in_err-write.ensures.told)
-
-pub returns-clause-others : goal.returns-clause-others
-returns-clause-others g c = c.loop-n.invariant.others
-
-pub returns-clause-adds : goal.returns-clause-adds
-returns-clause-adds g c = c.loop-n.invariant.adds
-
-pub returns-clause-any_moment : goal.returns-clause-any_moment
-returns-clause-any_moment g c = c.loop-n.invariant.since
-
 pub returns-clause-cause : goal.returns-clause-cause
 returns-clause-cause g c = record { later = c.loop-n.invariant.failures; fault = tt }
 
 pub returns-clause-told : goal.returns-clause-told
 returns-clause-told g c = let quiet = c.loop-n.invariant.failed_writes in record { later = omega (arith, quiet); fault = tt; quiet = quiet }
+
+pub returns-in_err-write : goal.returns-in_err-write
+returns-in_err-write g c =
+    let next = entry_is c.args.batch.now.entries _ _ (length c.loop-n.yielded) c.in-Some.n.now c.in-Some.content.now c.sectors.ensures.sectors c.contents.ensures.contents
+    (zip_turn _ _ c.loop-n.yielded c.into_iter-n-iterator.result c.loop-n.n-iterator c.next.new.self c.next.result (search rules) (search rules) c.loop-n.yielded_by (c.in-Some.n, c.in-Some.content) c.in-Some.is c.next.ensures.steps) in
+    let r = c.from_residual.result in
+    let err = c.from_residual.ensures.0 in
+    let so_far = c.loop-n.invariant in
+    let adds = adds_write c.loop-n.invariant.adds c.write.ensures.changes (λ k content is same. in_targets c.args.batch.now.entries (length c.loop-n.yielded) k content next.0 (is ∙ next.1)) in
+    record { written = IfOk-from_err r _ err; others = IfOk-from_err r _ err; adds = adds; any_moment = goes_on so_far.since c.write.ensures.time (image_or adds); cause = cause_on r err (cause_since so_far.failures c.in_err-write.ensures.cause); told = told_on r err (told_since so_far.failed_writes c.in_err-write.ensures.told) }

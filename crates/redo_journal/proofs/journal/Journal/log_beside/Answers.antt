@@ -1,4 +1,4 @@
-use Rattle.std.proofs.Common.{◌≡◌, ℕ, List, sym, subst, ap, ◌∙◌}
+use Rattle.std.proofs.Common.{◌≡◌, ℕ, List, sym, subst}
 use Rattle.std.specs.Prelude.{Contains}
 use Rattle.sector_disk.specs.Disk.{DiskState, LeavesOnly, sector}
 use Rattle.sector_disk.proofs.Moments.{weaker}
@@ -7,7 +7,6 @@ use Rattle.redo_journal.specs.Meaning.{IsSpare, LeavesMapBut, MeansUsed, data_of
 use Rattle.redo_journal.specs.States.{IsBeside, IsReady}
 use Rattle.redo_journal.proofs.Meaning.{header_sealed, super_on_disk, valid_with}
 use Rattle.redo_journal.proofs.Used.{but_means}
-use Rattle.redo_journal.proofs.Causes.{cause_as, cause_at_err, cause_at_ok, told_as, told_at_err, told_at_ok}
 use Rattle.redo_journal.proofs.journal.Journal.log_beside.Goals as goal
 
 -- where only free sectors read otherwise, each image means what the disk shows
@@ -38,25 +37,3 @@ returns-in-Ok-clause-any_moment g c =
 pub returns-in-Err-clause-any_moment : goal.returns-in-Err-clause-any_moment
 returns-in-Err-clause-any_moment g c =
     means g.D.Disk.state (targets c.args.placed.now.entries) c.self.inside.disk c.args.self c.log_beside.new.disk c.self.view_is c.self.invariant.0 c.requires.spare c.log_beside.ensures.any_moment
-
--- what each end tells
-pub returns-in-Ok-clause-logged : goal.returns-in-Ok-clause-logged
-returns-in-Ok-clause-logged g c = c.in-Ok.ensures.logged
-
-pub returns-in-Ok-clause-size : goal.returns-in-Ok-clause-size
-returns-in-Ok-clause-size g c = c.log_beside.ensures.size ∙ ap (λ d. (g.D.Disk.state d).size) c.self.view_is
-
-pub returns-in-Ok-clause-cause : goal.returns-in-Ok-clause-cause
-returns-in-Ok-clause-cause g c = cause_as g.D.Disk.state c.self.view_is (cause_at_ok c.in-Ok.ensures.cause)
-
-pub returns-in-Ok-clause-told : goal.returns-in-Ok-clause-told
-returns-in-Ok-clause-told g c = told_as g.D.Disk.state c.self.view_is (told_at_ok c.in-Ok.ensures.told)
-
-pub returns-in-Err-clause-size : goal.returns-in-Err-clause-size
-returns-in-Err-clause-size g c = c.log_beside.ensures.size ∙ ap (λ d. (g.D.Disk.state d).size) c.self.view_is
-
-pub returns-in-Err-clause-cause : goal.returns-in-Err-clause-cause
-returns-in-Err-clause-cause g c = cause_as g.D.Disk.state c.self.view_is (cause_at_err c.in-Err.ensures.cause)
-
-pub returns-in-Err-clause-told : goal.returns-in-Err-clause-told
-returns-in-Err-clause-told g c = told_as g.D.Disk.state c.self.view_is (told_at_err c.in-Err.ensures.told)

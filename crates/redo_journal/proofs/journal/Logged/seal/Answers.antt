@@ -5,6 +5,7 @@ use Rattle.redo_journal.proofs.Meaning.{batch_super, header_sealed}
 use Rattle.redo_journal.proofs.Causes.{cause_as, cause_at_err, cause_at_ok, told_as, told_at_err, told_at_ok}
 use Rattle.std.specs.Prelude.{Ok}
 use Rattle.redo_journal.specs.States.{IsLogged}
+use Rattle.std.proofs.lemmas.Bool.{true≢false}
 use Rattle.redo_journal.proofs.journal.Logged.seal.Goals as goal
 
 pub invariant_of-result : goal.invariant_of-result
@@ -25,7 +26,6 @@ returns-in-Ok-clause-changed g c =
     subst (λ d. SameMap (data_of new) (with_batch c.args.batch.now.entries (data_of (g.D.Disk.state d)))) c.self.view_is
     here
 
--- what each end tells
 pub seal_batch-requires-clause-logged : goal.seal_batch-requires-clause-logged
 seal_batch-requires-clause-logged g c = subst (λ d. IsLogged c.args.batch.now.entries (g.D.Disk.state d)) (sym c.self.view_is) c.requires
 
@@ -35,14 +35,8 @@ seal_batch-requires-clause-header g c = c.self.invariant.0
 pub seal_batch-requires-clause-next : goal.seal_batch-requires-clause-next
 seal_batch-requires-clause-next g c = c.self.invariant.1
 
-pub returns-in-Ok-clause-sealed : goal.returns-in-Ok-clause-sealed
-returns-in-Ok-clause-sealed g c = c.in-Ok.ensures.sealed
-
 pub returns-in-Ok-clause-any_moment : goal.returns-in-Ok-clause-any_moment
 returns-in-Ok-clause-any_moment g c = subst (λ d. LeavesAllOrNone c.args.batch.now.entries (g.D.Disk.state d) (g.D.Disk.state c.seal_batch.new.disk)) c.self.view_is c.seal_batch.ensures.any_moment
-
-pub returns-in-Err-clause-any_moment : goal.returns-in-Err-clause-any_moment
-returns-in-Err-clause-any_moment g c = subst (λ d. LeavesAllOrNone c.args.batch.now.entries (g.D.Disk.state d) (g.D.Disk.state c.seal_batch.new.disk)) c.self.view_is c.seal_batch.ensures.any_moment
 
 pub returns-in-Ok-clause-lasting : goal.returns-in-Ok-clause-lasting
 returns-in-Ok-clause-lasting g c = subst (λ d. EachReadsAs (with_batch c.args.batch.now.entries (data_of (g.D.Disk.state d))) (g.D.Disk.state c.seal_batch.new.disk)) c.self.view_is c.in-Ok.ensures.lasting
@@ -50,20 +44,14 @@ returns-in-Ok-clause-lasting g c = subst (λ d. EachReadsAs (with_batch c.args.b
 pub returns-in-Ok-clause-empty : goal.returns-in-Ok-clause-empty
 returns-in-Ok-clause-empty g c = λ none j. Ok (((c.seal_batch.ensures.empty none).1 ∙ c.self.view_is) j)
 
-pub returns-in-Ok-clause-size : goal.returns-in-Ok-clause-size
-returns-in-Ok-clause-size g c = c.seal_batch.ensures.size ∙ ap (λ d. (g.D.Disk.state d).size) c.self.view_is
-
 pub returns-in-Ok-clause-cause : goal.returns-in-Ok-clause-cause
 returns-in-Ok-clause-cause g c = cause_as g.D.Disk.state c.self.view_is (cause_at_ok c.in-Ok.ensures.cause)
 
 pub returns-in-Ok-clause-told : goal.returns-in-Ok-clause-told
 returns-in-Ok-clause-told g c = told_as g.D.Disk.state c.self.view_is (told_at_ok c.in-Ok.ensures.told)
 
-pub returns-in-Err-clause-size : goal.returns-in-Err-clause-size
-returns-in-Err-clause-size g c = c.seal_batch.ensures.size ∙ ap (λ d. (g.D.Disk.state d).size) c.self.view_is
-
-pub returns-in-Err-clause-cause : goal.returns-in-Err-clause-cause
-returns-in-Err-clause-cause g c = cause_as g.D.Disk.state c.self.view_is (cause_at_err c.in-Err.ensures.cause)
-
-pub returns-in-Err-clause-told : goal.returns-in-Err-clause-told
-returns-in-Err-clause-told g c = told_as g.D.Disk.state c.self.view_is (told_at_err c.in-Err.ensures.told)
+pub returns-in-Err : goal.returns-in-Err
+returns-in-Err g c =
+    let state = g.D.Disk.state in
+    let new = state c.seal_batch.new.disk in
+    record { sealed = tt; changed = tt; any_moment = subst (λ d. LeavesAllOrNone c.args.batch.now.entries (state d) new) c.self.view_is c.seal_batch.ensures.any_moment; lasting = tt; empty = λ none. absurd (true≢false (sym (c.in-Err.ensures.empty none).0)); size = c.seal_batch.ensures.size ∙ ap (λ d. (state d).size) c.self.view_is; cause = cause_as state c.self.view_is (cause_at_err c.in-Err.ensures.cause); told = told_as state c.self.view_is (told_at_err c.in-Err.ensures.told) }

@@ -1,9 +1,5 @@
-use Rattle.std.proofs.Common.{sym, ◌∙◌, ap, subst}
+use Rattle.std.proofs.Common.{sym, ◌∙◌}
 use Rattle.redo_journal.proofs.Meaning.{header_same, same_map, same_since}
-use Rattle.redo_journal.proofs.Causes.{cause_as, cause_at_err, cause_at_ok, told_as, told_at_err, told_at_ok}
-use Rattle.std.specs.Prelude.{Ok}
-use Rattle.redo_journal.specs.Meaning.{LeavesSameMap}
-use Rattle.redo_journal.specs.States.{IsSealed}
 use Rattle.redo_journal.proofs.journal.Sealed.install.Goals as goal
 
 pub invariant_of-result : goal.invariant_of-result
@@ -19,40 +15,3 @@ invariant_of-result g c =
 pub returns-in-Ok-clause-same : goal.returns-in-Ok-clause-same
 returns-in-Ok-clause-same g c =
     same_since g.D.Disk.state c.install_batch.new.disk c.self.view_is (g.met.D.Disk.counts_now c.install_batch.new.disk) (g.met.D.Disk.seen_is_image c.install_batch.new.disk) c.in-Ok.ensures.size c.in-Ok.ensures.any_moment
-
--- what each end tells
-pub install_batch-requires-clause-sealed : goal.install_batch-requires-clause-sealed
-install_batch-requires-clause-sealed g c = subst (λ d. IsSealed c.args.batch.now.entries (g.D.Disk.state d)) (sym c.self.view_is) c.requires
-
-pub install_batch-requires-clause-header : goal.install_batch-requires-clause-header
-install_batch-requires-clause-header g c = c.self.invariant.0
-
-pub returns-in-Ok-clause-stands : goal.returns-in-Ok-clause-stands
-returns-in-Ok-clause-stands g c = c.in-Ok.ensures.stands
-
-pub returns-in-Ok-clause-any_moment : goal.returns-in-Ok-clause-any_moment
-returns-in-Ok-clause-any_moment g c = subst (λ d. LeavesSameMap (g.D.Disk.state d) (g.D.Disk.state c.install_batch.new.disk)) c.self.view_is c.install_batch.ensures.any_moment
-
-pub returns-in-Err-clause-any_moment : goal.returns-in-Err-clause-any_moment
-returns-in-Err-clause-any_moment g c = subst (λ d. LeavesSameMap (g.D.Disk.state d) (g.D.Disk.state c.install_batch.new.disk)) c.self.view_is c.install_batch.ensures.any_moment
-
-pub returns-in-Ok-clause-empty : goal.returns-in-Ok-clause-empty
-returns-in-Ok-clause-empty g c = λ none j. Ok (((c.install_batch.ensures.empty none).1 ∙ c.self.view_is) j)
-
-pub returns-in-Ok-clause-size : goal.returns-in-Ok-clause-size
-returns-in-Ok-clause-size g c = c.install_batch.ensures.size ∙ ap (λ d. (g.D.Disk.state d).size) c.self.view_is
-
-pub returns-in-Ok-clause-cause : goal.returns-in-Ok-clause-cause
-returns-in-Ok-clause-cause g c = cause_as g.D.Disk.state c.self.view_is (cause_at_ok c.in-Ok.ensures.cause)
-
-pub returns-in-Ok-clause-told : goal.returns-in-Ok-clause-told
-returns-in-Ok-clause-told g c = told_as g.D.Disk.state c.self.view_is (told_at_ok c.in-Ok.ensures.told)
-
-pub returns-in-Err-clause-size : goal.returns-in-Err-clause-size
-returns-in-Err-clause-size g c = c.install_batch.ensures.size ∙ ap (λ d. (g.D.Disk.state d).size) c.self.view_is
-
-pub returns-in-Err-clause-cause : goal.returns-in-Err-clause-cause
-returns-in-Err-clause-cause g c = cause_as g.D.Disk.state c.self.view_is (cause_at_err c.in-Err.ensures.cause)
-
-pub returns-in-Err-clause-told : goal.returns-in-Err-clause-told
-returns-in-Err-clause-told g c = told_as g.D.Disk.state c.self.view_is (told_at_err c.in-Err.ensures.told)
