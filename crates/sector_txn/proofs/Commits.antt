@@ -1,7 +1,8 @@
 -- What waits, and the commit that stands.
-use Rattle.std.proofs.Common.{◌≡◌, ◌∙◌, ◌+◌, ◌≤◌, ◌<◌, ℕ, List, [], ◌∷◌, ◌++◌, length, cond, eqb, ap, arith, refl, sym, subst}
+use Rattle.std.proofs.Common.{◌≡◌, ◌∙◌, ◌+◌, ◌≤◌, ◌<◌, ℕ, List, [], ◌∷◌, ◌++◌, length, cond, eqb, not, ap, arith, refl, sym, subst}
 use Rattle.std.proofs.lemmas.List.{map-append}
 use Rattle.std.proofs.lemmas.List.Elements.{All-append, All-nil}
+use Rattle.std.proofs.lemmas.List.Sums.{count_by-le-length}
 use Rattle.std.specs.Prelude.{All, Contains, Option, Some, None, IfSome, IfNone}
 use Rattle.fs_layout.specs.declared.geometry.Geometry.{Geometry}
 use Rattle.fs_layout.specs.Bytes.{SectorMap}
@@ -9,7 +10,8 @@ use Rattle.fs_layout.specs.Recovered.{recovered}
 use Rattle.fs_layout.specs.Commit.{IsCommit}
 use Rattle.fs_layout.specs.Header.{log_end, max_delta, max_targets}
 use Rattle.sector_disk.specs.Disk.{DiskState, Image, IsSame, sector}
-use Rattle.redo_journal.specs.Batch.{BatchView, Entry, IsOnDisk, added, targets, with_batch}
+use Rattle.redo_journal.specs.Batch.{BatchView, Entry, IsOnDisk, added, has_entry, targets, with_batch}
+use Rattle.redo_journal.proofs.Entries.{length-targets}
 use Rattle.redo_journal.specs.Meaning.{HasLayout, IsMapped, IsSpare, data_of}
 use Rattle.redo_journal.specs.States.{IsBeside, IsNoTarget, header_at}
 use Rattle.sector_txn.specs.Clean.{IsPartOf}
@@ -91,6 +93,10 @@ nothing_waits disk placed logged unplaced unlogged log room = record {
 pub map_none : (placed logged : List Entry) (f : SectorMap) → placed ≡ [] → logged ≡ [] → with_batch (all_waiting placed logged) f ≡ f
 map_none placed logged f unplaced unlogged =
     map_both logged placed f ∙ ap (λ (l : List Entry). with_batch l (with_batch placed f)) unlogged ∙ ap (λ (l : List Entry). with_batch l f) unplaced
+
+-- no more is added than there is
+pub added_few : (logged delta : List Entry) → added logged delta ≤ length delta
+added_few logged delta = omega (arith, count_by-le-length (λ n. not (has_entry logged n)) (targets delta), length-targets delta)
 
 -- ---- what a look-up doesn't find
 pub none_then : {X P Q : Type 0} (r : Option X) → (P → Q) → IfNone r P → IfNone r Q

@@ -31,6 +31,11 @@ pub if_ok_both : {A E : Type 0} {P Q R : A → Type 0} (r : Result A E) → ((a 
 if_ok_both (Ok a) both p q = both a p q
 if_ok_both (Err e) both p q = p
 
+-- and three
+pub if_ok_each : {A E : Type 0} {P Q R S : A → Type 0} (r : Result A E) → ((a : A) → P a → Q a → R a → S a) → IfOk r P → IfOk r Q → IfOk r R → IfOk r S
+if_ok_each (Ok a) all p q r = all a p q r
+if_ok_each (Err e) all p q r = p
+
 -- after a commit, a step that leaves the same map
 pub closed_left : (after : SectorMap) (old mid new : DiskState) → new.size ≡ mid.size → SameMap (data_of mid) after → LeavesOldOr after old mid → LeavesSameMap mid new → LeavesOldOr after old new
 closed_left after old mid new size same first then = record {

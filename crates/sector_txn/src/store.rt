@@ -14,7 +14,7 @@ use crate::Sectors;
 use crate::cached::CachedJournal;
 use crate::commit::commit_if_full;
 use crate::hints::Hints;
-use crate::waiting::Waiting;
+use crate::waiting::{Waiting, new_batch};
 use fs_layout::{HEADER_TARGETS, max_targets};
 use redo_journal::{Batch, Broken, Journal};
 use sector_disk::{CrashDisk, Disk, DiskFault};
@@ -377,8 +377,8 @@ fn reserved(
     ensures most { IfOk result (λ parts. (parts.1.value.most ≡ max_delta header) × (parts.2.value.most ≡ max_targets header)) }
 {
     let waiting = Waiting::new(alloc, header)?;
-    let delta = Box::new(alloc, Batch::new(alloc, most_delta(header))?)?;
-    let last = Box::new(alloc, Batch::new(alloc, max_targets(header))?)?;
+    let delta = new_batch(alloc, most_delta(header))?;
+    let last = new_batch(alloc, max_targets(header))?;
     let hints = Hints::new(alloc, header)?;
     Ok((waiting, delta, last, hints))
 }

@@ -5,6 +5,7 @@ ghost use Rattle.fs_layout.specs.Bytes.{SectorMap};
 ghost use Rattle.fs_layout.specs.Header.{max_delta, max_targets};
 ghost use Rattle.fs_layout.specs.declared.header.TheConstants.{MAX_HEADER};
 ghost use Rattle.redo_journal.specs.Batch.{IsOnDisk, added, with_batch};
+ghost use Rattle.redo_journal.specs.declared.batch.TheConstants.{MOST_SECTORS};
 ghost use Rattle.sector_txn.specs.Waits.{EntriesHavePlaces, with_waiting};
 
 use fs_layout::max_targets;
@@ -34,12 +35,9 @@ impl Waiting {
         ensures log { IfOk result (λ waiting. waiting.logged.value.most ≡ max_targets header) }
     {
         let most = max_targets(header);
-        let placed = Batch::new(alloc, (PLACED_FOR_LOGGED * most).min(MOST_SECTORS))?;
-        let logged = Batch::new(alloc, most)?;
-        Ok(Waiting {
-            placed: Box::new(alloc, placed)?,
-            logged: Box::new(alloc, logged)?,
-        })
+        let placed = new_batch(alloc, (PLACED_FOR_LOGGED * most).min(MOST_SECTORS))?;
+        let logged = new_batch(alloc, most)?;
+        Ok(Waiting { placed, logged })
     }
 
     /// The content that a sector is to have, if it waits.
@@ -90,6 +88,15 @@ impl Waiting {
         self.placed.clear();
         self.logged.clear();
     }
+}
+
+/// A batch without sectors, which has room for so many.
+pub(crate) fn new_batch(alloc: Global, most: usize) -> Result<Box<Batch>, AllocError>
+    requires { most ≤ MOST_SECTORS }
+    ensures empty { IfOk result (λ batch. batch.value.entries ≡ []) }
+    ensures most { IfOk result (λ batch. batch.value.most ≡ most) }
+{
+    Ok(Box::new(alloc, Batch::new(alloc, most)?)?)
 }
 
 /// Whether the changes fit beside what waits, whichever of both they come to. Nothing is looked up where they would if all their sectors
