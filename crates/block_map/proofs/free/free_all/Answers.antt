@@ -5,7 +5,9 @@ use Rattle.bit_alloc.proofs.Transactions.{bitmaps_unchanged}
 use Rattle.bit_alloc.proofs.Soundness.{sound_then, spare_then}
 use Rattle.inode_table.proofs.Sound.{room_left}
 use Rattle.inode_table.proofs.StoredAcls.{acl_in_data, default_acl_in_data}
+use Rattle.sector_txn.proofs.TransactionRuns.{store_joined}
 use Rattle.block_map.proofs.Freeings.{cleared_puts, given_puts, access_puts, default_puts, may_change_then, IsFreed, all_freed}
+use Rattle.block_map.proofs.Runs.{fault_on, no_fault}
 use Rattle.block_map.proofs.free.free_all.Goals as goal
 
 pub give-requires-clause-bitmaps : goal.give-requires-clause-bitmaps
@@ -31,14 +33,58 @@ give_sector-requires-clause-room g c =
 
 pub give_sector-requires-2-clause-owned : goal.give_sector-requires-2-clause-owned
 give_sector-requires-2-clause-owned g c =
-    let owned = default_acl_in_data c.requires.sound c.requires.number.1 (ap (λ (v : Inode). v.default_acl) c.in_ok-inode.ensures.found) in
-    search rules
+    default_acl_in_data c.requires.sound c.requires.number.1 (ap (λ (v : Inode). v.default_acl) c.in_ok-inode.ensures.found)
 
 pub give_sector-requires-2-clause-room : goal.give_sector-requires-2-clause-room
 give_sector-requires-2-clause-room g c =
     spare_then c.args.geometry 0 0 (g.S.Sectors.state c.args.s.now) (g.S.Sectors.state c.give_sector.new.s) (omega (arith, c.requires.spare))
     (access_puts c.requires.sound c.requires.number c.in_ok-inode.ensures.found c.in_ok-inode.ensures.same c.in_ok-give.ensures.given c.in_ok-give.ensures.puts
     c.in_ok-give_from.ensures.given c.in_ok-give_sector.ensures.puts)
+
+pub give_sector-requires-clause-bitmaps : goal.give_sector-requires-clause-bitmaps
+give_sector-requires-clause-bitmaps g c = c.in_ok-give_from.ensures.given.tables
+
+pub give_sector-requires-2-clause-bitmaps : goal.give_sector-requires-2-clause-bitmaps
+give_sector-requires-2-clause-bitmaps g c = c.in_ok-give_sector.ensures.bitmaps
+
+pub write_inode-requires-clause-on_disk : goal.write_inode-requires-clause-on_disk
+write_inode-requires-clause-on_disk g c = c.in_ok-give_sector-2.ensures.bitmaps.disk
+
+pub write_inode-requires-clause-header : goal.write_inode-requires-clause-header
+write_inode-requires-clause-header g c = c.in_ok-give_sector-2.ensures.bitmaps.header
+
+pub write_inode-requires-clause-tables : goal.write_inode-requires-clause-tables
+write_inode-requires-clause-tables g c = c.in_ok-give_sector-2.ensures.bitmaps.tables
+
+pub returns-in_err-give-clause-store : goal.returns-in_err-give-clause-store
+returns-in_err-give-clause-store g c = store_joined c.in_ok-inode.ensures.same.store c.in_err-give.ensures.unchanged.store
+
+pub returns-in_err-give-clause-cause : goal.returns-in_err-give-clause-cause
+returns-in_err-give-clause-cause g c = fault_on c.in_ok-inode.ensures.same.store c.in_err-give.ensures.cause c.from_residual-in_err-give.result c.from_residual-in_err-give.ensures
+
+pub returns-in_err-give_from-clause-store : goal.returns-in_err-give_from-clause-store
+returns-in_err-give_from-clause-store g c = store_joined (store_joined c.in_ok-inode.ensures.same.store c.in_ok-give.ensures.puts.store) c.in_err-give_from.ensures.store
+
+pub returns-in_err-give_from-clause-cause : goal.returns-in_err-give_from-clause-cause
+returns-in_err-give_from-clause-cause g c = fault_on (store_joined c.in_ok-inode.ensures.same.store c.in_ok-give.ensures.puts.store) c.in_err-give_from.ensures.cause c.from_residual-in_err-give_from.result c.from_residual-in_err-give_from.ensures
+
+pub returns-in_err-give_sector-clause-store : goal.returns-in_err-give_sector-clause-store
+returns-in_err-give_sector-clause-store g c = store_joined (given_puts c.requires.sound c.requires.number c.in_ok-inode.ensures.found c.in_ok-inode.ensures.same c.in_ok-give.ensures.given c.in_ok-give.ensures.puts c.in_ok-give_from.ensures.given).store c.in_err-give_sector.ensures.store
+
+pub returns-in_err-give_sector-clause-cause : goal.returns-in_err-give_sector-clause-cause
+returns-in_err-give_sector-clause-cause g c = fault_on (given_puts c.requires.sound c.requires.number c.in_ok-inode.ensures.found c.in_ok-inode.ensures.same c.in_ok-give.ensures.given c.in_ok-give.ensures.puts c.in_ok-give_from.ensures.given).store c.in_err-give_sector.ensures.cause c.from_residual-in_err-give_sector.result c.from_residual-in_err-give_sector.ensures
+
+pub returns-in_err-give_sector-2-clause-store : goal.returns-in_err-give_sector-2-clause-store
+returns-in_err-give_sector-2-clause-store g c = store_joined (access_puts c.requires.sound c.requires.number c.in_ok-inode.ensures.found c.in_ok-inode.ensures.same c.in_ok-give.ensures.given c.in_ok-give.ensures.puts c.in_ok-give_from.ensures.given c.in_ok-give_sector.ensures.puts).store c.in_err-give_sector-2.ensures.store
+
+pub returns-in_err-give_sector-2-clause-cause : goal.returns-in_err-give_sector-2-clause-cause
+returns-in_err-give_sector-2-clause-cause g c = fault_on (access_puts c.requires.sound c.requires.number c.in_ok-inode.ensures.found c.in_ok-inode.ensures.same c.in_ok-give.ensures.given c.in_ok-give.ensures.puts c.in_ok-give_from.ensures.given c.in_ok-give_sector.ensures.puts).store c.in_err-give_sector-2.ensures.cause c.from_residual-in_err-give_sector-2.result c.from_residual-in_err-give_sector-2.ensures
+
+pub returns-in_err-write_inode-clause-store : goal.returns-in_err-write_inode-clause-store
+returns-in_err-write_inode-clause-store g c = store_joined (default_puts c.requires.sound c.requires.number c.in_ok-inode.ensures.found c.in_ok-inode.ensures.same c.in_ok-give.ensures.given c.in_ok-give.ensures.puts c.in_ok-give_from.ensures.given c.in_ok-give_sector.ensures.puts c.in_ok-give_sector-2.ensures.puts).store c.in_err-write_inode.ensures.store
+
+pub returns-in_err-write_inode-clause-cause : goal.returns-in_err-write_inode-clause-cause
+returns-in_err-write_inode-clause-cause g c = fault_on (default_puts c.requires.sound c.requires.number c.in_ok-inode.ensures.found c.in_ok-inode.ensures.same c.in_ok-give.ensures.given c.in_ok-give.ensures.puts c.in_ok-give_from.ensures.given c.in_ok-give_sector.ensures.puts c.in_ok-give_sector-2.ensures.puts).store c.in_err-write_inode.ensures.cause c.from_residual-in_err-write_inode.result c.from_residual-in_err-write_inode.ensures
 
 pub write_inode-requires-clause-fits : goal.write_inode-requires-clause-fits
 write_inode-requires-clause-fits g c = free_fits
@@ -67,5 +113,5 @@ returns g c =
       touches = f.touches;
       free = f.free;
       unused = f.unused;
-      cause = search rules;
+      cause = no_fault f.touches.puts.store;
     }
