@@ -1,4 +1,4 @@
-use Rattle.std.proofs.Common.{ap, arith, rules}
+use Rattle.std.proofs.Common.{ap, arith}
 use Rattle.fs_layout.specs.declared.inode.Inode.{Inode}
 use Rattle.fs_layout.proofs.Free.{free_fits}
 use Rattle.bit_alloc.proofs.Transactions.{bitmaps_unchanged}

@@ -3,6 +3,8 @@ use Rattle.bit_alloc.proofs.Soundness.{free_kept, sound_then}
 use Rattle.bit_alloc.proofs.Passing.{through_try}
 use Rattle.block_map.proofs.Linking.{link_fits, IsMade, link_made}
 use Rattle.block_map.proofs.Rewritten.{filled}
+use Rattle.sector_txn.proofs.TransactionRuns.{store_joined}
+use Rattle.block_map.proofs.Runs.{cause_on, other_fault_on, no_fault_of}
 use Rattle.block_map.proofs.link.new_link.Goals as goal
 
 pub returns-in_err-link-clause-full : goal.returns-in_err-link-clause-full
@@ -47,3 +49,33 @@ returns-clause-holds g c = (is_made g c).holds
 
 pub returns-clause-whole : goal.returns-clause-whole
 returns-clause-whole g c = (is_made g c).whole
+
+pub returns-in_err-link-clause-store : goal.returns-in_err-link-clause-store
+returns-in_err-link-clause-store g c = store_joined c.in_ok-ino.ensures.puts.store c.in_err-link.ensures.store
+
+pub returns-in_err-link-clause-cause : goal.returns-in_err-link-clause-cause
+returns-in_err-link-clause-cause g c =
+    let e = c.from_residual-in_err-link.ensures in
+    cause_on c.in_ok-ino.ensures.puts.store c.in_err-link.ensures.cause c.from_residual-in_err-link.result e.0 e.1
+
+pub write_inode-requires-clause-on_disk : goal.write_inode-requires-clause-on_disk
+write_inode-requires-clause-on_disk g c = c.in_ok-link.ensures.taken.tables.disk
+
+pub write_inode-requires-clause-header : goal.write_inode-requires-clause-header
+write_inode-requires-clause-header g c = c.in_ok-link.ensures.taken.tables.header
+
+pub write_inode-requires-clause-tables : goal.write_inode-requires-clause-tables
+write_inode-requires-clause-tables g c = c.in_ok-link.ensures.taken.tables.tables
+
+pub returns-in_err-write_inode-clause-store : goal.returns-in_err-write_inode-clause-store
+returns-in_err-write_inode-clause-store g c = store_joined (store_joined c.in_ok-ino.ensures.puts.store c.in_ok-link.ensures.taken.puts.store) c.in_err-write_inode.ensures.store
+
+pub returns-in_err-write_inode-clause-cause : goal.returns-in_err-write_inode-clause-cause
+returns-in_err-write_inode-clause-cause g c =
+    other_fault_on (store_joined c.in_ok-ino.ensures.puts.store c.in_ok-link.ensures.taken.puts.store) c.in_err-write_inode.ensures.cause c.from_residual-in_err-write_inode.result c.from_residual-in_err-write_inode.ensures.0
+
+pub returns-clause-store : goal.returns-clause-store
+returns-clause-store g c = (is_made g c).touches.puts.store
+
+pub returns-clause-cause : goal.returns-clause-cause
+returns-clause-cause g c = no_fault_of (is_made g c).touches.puts.store

@@ -9,7 +9,7 @@ use Rattle.block_map.proofs.AddedPointers.{one_lacks}
 use Rattle.block_map.proofs.Adding.{IsAdded, above_of, above_at, above_lacks, all_added, first_block_grows, first_block_held, has_above, more_numbers, named_added, named_lacks, none_added, number_lacks, room_for_number, spare_above, stands}
 use Rattle.block_map.proofs.Alterings.{may_after}
 use Rattle.block_map.proofs.Counts.{most_least}
-use Rattle.block_map.proofs.Runs.{same_fault, cause_on}
+use Rattle.block_map.proofs.Runs.{same_fault, cause_on, no_fault_of}
 use Rattle.block_map.proofs.pointers.+add_numbers.Goals as goal
 
 -- ---- the first alone
@@ -156,3 +156,6 @@ returns-clause-at_hand g t c = c.loop-i.invariant.at_hand
 
 pub returns-clause-store : goal.returns-clause-store
 returns-clause-store g t c = store_joined c.in_ok-add_numbers.ensures.store c.loop-i.invariant.added.puts.store
+
+pub returns-clause-cause : goal.returns-clause-cause
+returns-clause-cause g t c = no_fault_of (store_joined c.in_ok-add_numbers.ensures.store c.loop-i.invariant.added.puts.store)

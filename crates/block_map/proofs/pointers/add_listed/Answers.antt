@@ -9,7 +9,7 @@ use Rattle.block_map.specs.Steps.{AddsSector}
 use Rattle.block_map.proofs.AddedPointers.{sector_there, added_after, read_above}
 use Rattle.block_map.proofs.Givings.{may_unchanged}
 use Rattle.block_map.proofs.Numbers.{at_hand_unchanged, next_pointers}
-use Rattle.block_map.proofs.Runs.{same_fault, same_map}
+use Rattle.block_map.proofs.Runs.{same_fault, same_map, cause_on, no_fault_of}
 use Rattle.block_map.proofs.Wrote.{free_same, may_within}
 use Rattle.block_map.proofs.pointers.add_listed.Goals as goal
 
@@ -87,3 +87,17 @@ returns-clause-added g c =
 
 pub returns-clause-store : goal.returns-clause-store
 returns-clause-store g c = store_joined c.in_ok-above.ensures.same.store c.in_ok-list_sector.ensures.store
+
+pub returns-in_err-list_sector-clause-store : goal.returns-in_err-list_sector-clause-store
+returns-in_err-list_sector-clause-store g c = store_joined c.in_ok-above.ensures.same.store c.in_err-list_sector.ensures.store
+
+pub returns-in_err-list_sector-clause-cause : goal.returns-in_err-list_sector-clause-cause
+returns-in_err-list_sector-clause-cause g c =
+    let e = c.from_residual-in_err-list_sector.ensures in
+    cause_on c.in_ok-above.ensures.same.store c.in_err-list_sector.ensures.cause c.from_residual-in_err-list_sector.result e.0 e.1
+
+pub returns-then-number-ne0-clause-cause : goal.returns-then-number-ne0-clause-cause
+returns-then-number-ne0-clause-cause g c = no_fault_of c.in_ok-above.ensures.same.store
+
+pub returns-clause-cause : goal.returns-clause-cause
+returns-clause-cause g c = no_fault_of (store_joined c.in_ok-above.ensures.same.store c.in_ok-list_sector.ensures.store)

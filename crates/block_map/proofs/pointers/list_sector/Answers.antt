@@ -11,6 +11,7 @@ use Rattle.block_map.proofs.Numbers.{listed_within}
 use Rattle.block_map.proofs.Rewritten.{was_full}
 use Rattle.block_map.proofs.Rooms.{lacking_beside, lacking_unput, puts_beside}
 use Rattle.block_map.proofs.Wrote.{may_within, pointers_puts}
+use Rattle.block_map.proofs.Runs.{no_fault_of}
 use Rattle.block_map.proofs.pointers.list_sector.Goals as goal
 
 pub take_sector-requires-clause-room : goal.take_sector-requires-clause-room
@@ -57,3 +58,6 @@ returns-clause-at_hand g c =
 
 pub returns-clause-store : goal.returns-clause-store
 returns-clause-store g c = store_joined c.in_ok-number.ensures.store c.put.ensures.store
+
+pub returns-clause-cause : goal.returns-clause-cause
+returns-clause-cause g c = no_fault_of (store_joined c.in_ok-number.ensures.store c.put.ensures.store)

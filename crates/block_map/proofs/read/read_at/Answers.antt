@@ -5,8 +5,9 @@ use Rattle.fs_layout.specs.Header.{log_end}
 use Rattle.fs_layout.specs.Images.{pointer, byte_in}
 use Rattle.block_map.specs.Blocks.{IsWithin}
 use Rattle.block_map.proofs.Numbers.{at_hand_before, at_hand_unchanged, number_within, pointer_before, within_unchanged}
-use Rattle.block_map.proofs.Runs.{unchanged_joined, same_map}
+use Rattle.block_map.proofs.Runs.{unchanged_joined, same_map, fault_on, no_fault}
 use Rattle.block_map.proofs.Reading.{more_read, none_read, all_read}
+use Rattle.sector_txn.proofs.TransactionRuns.{store_joined}
 use Rattle.block_map.proofs.read.read_at.Goals as goal
 
 pub load-requires-clause-within : goal.load-requires-clause-within
@@ -64,3 +65,19 @@ loop-done-preserved g c =
 
 pub returns-clause-bytes : goal.returns-clause-bytes
 returns-clause-bytes g c = all_read c.loop-done.invariant.read (omega arith) (c.min-count.ensures ∙ ap (min (length c.args.to.now)) c.saturating_sub.ensures)
+
+pub returns-in_err-load-clause-same : goal.returns-in_err-load-clause-same
+returns-in_err-load-clause-same g c = unchanged_joined c.loop-done.invariant.same c.in_err-load.ensures.same
+
+pub returns-in_err-load-clause-cause : goal.returns-in_err-load-clause-cause
+returns-in_err-load-clause-cause g c = fault_on c.loop-done.invariant.same.store c.in_err-load.ensures.cause c.from_residual.result c.from_residual.ensures
+
+pub returns-in_err-read_block-clause-same : goal.returns-in_err-read_block-clause-same
+returns-in_err-read_block-clause-same g c = unchanged_joined (unchanged_joined c.loop-done.invariant.same c.in_ok-load.ensures.same) c.in_err-read_block.ensures.same
+
+pub returns-in_err-read_block-clause-cause : goal.returns-in_err-read_block-clause-cause
+returns-in_err-read_block-clause-cause g c =
+    fault_on (store_joined c.loop-done.invariant.same.store c.in_ok-load.ensures.same.store) c.in_err-read_block.ensures.cause c.from_residual-in_err-read_block.result c.from_residual-in_err-read_block.ensures
+
+pub returns-clause-cause : goal.returns-clause-cause
+returns-clause-cause g c = no_fault c.loop-done.invariant.same.store

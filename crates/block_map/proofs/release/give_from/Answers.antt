@@ -2,6 +2,8 @@ use Rattle.std.proofs.Common.{◌≡◌, ◌+◌, ℕ, suc, ap, subst, ◌∙◌
 use Rattle.fs_layout.specs.declared.inode.TheConstants.{POINTER_LEVELS}
 use Rattle.block_map.specs.Drops.{GivesParts, IsFrom, first_above, first_on}
 use Rattle.block_map.proofs.Givings.{IsForBelow, all_given, given_keeps, in_data, in_data_kept, more_given}
+use Rattle.block_map.proofs.Runs.{fault_on, no_fault}
+use Rattle.sector_txn.proofs.TransactionRuns.{store_joined}
 use Rattle.block_map.proofs.release.give_from.Goals as goal
 
 pub give_level-requires-clause-inside : goal.give_level-requires-clause-inside
@@ -30,3 +32,15 @@ returns-clause-given g c =
     let all : c.loop-level.level ≡ POINTER_LEVELS + 1 = omega (arith, c.loop-level-test.false, most) in
     all_given (subst (λ (n : ℕ). GivesParts c.args.geometry c.args.inode.now (IsForBelow n c.args.first) (g.S.Sectors.state c.args.s.now) (g.S.Sectors.state c.loop-level.s)) all
     c.loop-level.invariant.given)
+
+pub returns-in_err-give_level-clause-store : goal.returns-in_err-give_level-clause-store
+returns-in_err-give_level-clause-store g c = store_joined c.loop-level.invariant.given.puts.store c.in_err-give_level.ensures.store
+
+pub returns-in_err-give_level-clause-cause : goal.returns-in_err-give_level-clause-cause
+returns-in_err-give_level-clause-cause g c = fault_on c.loop-level.invariant.given.puts.store c.in_err-give_level.ensures.cause c.from_residual.result c.from_residual.ensures
+
+pub returns-clause-store : goal.returns-clause-store
+returns-clause-store g c = c.loop-level.invariant.given.puts.store
+
+pub returns-clause-cause : goal.returns-clause-cause
+returns-clause-cause g c = no_fault c.loop-level.invariant.given.puts.store

@@ -10,6 +10,7 @@ use Rattle.bit_alloc.proofs.Soundness.{spare_then}
 use Rattle.block_map.specs.Drops.{GivesParts, IsAmong}
 use Rattle.block_map.proofs.Numbers.{data_within, has_unchanged, listed_pointers}
 use Rattle.block_map.proofs.Givings.{given_keeps, given_unchanged, holes_given, in_data_kept, level_given, next_given, none_listed}
+use Rattle.block_map.proofs.Runs.{fault_on, no_fault}
 use Rattle.block_map.proofs.release.give_level.Goals as goal
 use Rattle.block_map.proofs.release.give_level.Goals.{then-sector-ne0+in_ok-give_listed-2, else-sector-ne0}
 
@@ -77,3 +78,20 @@ returns-clause-given g c =
     level_given c.loop-j.invariant.given (λ i ge.
     number_past_next old.sectors c.args.inode.now c.args.level c.number_end-j-end.result c.own_count-own.result (sym c.own_count-own.ensures)
     (c.number_end-j-end.ensures.past old.sectors) i (omega (arith, ge, c.loop-j-test.false)))
+
+pub returns-in_err-sector-clause-store : goal.returns-in_err-sector-clause-store
+returns-in_err-sector-clause-store g c = store_joined c.loop-j.invariant.given.puts.store c.in_err-sector.ensures.same.store
+
+pub returns-in_err-sector-clause-cause : goal.returns-in_err-sector-clause-cause
+returns-in_err-sector-clause-cause g c = fault_on c.loop-j.invariant.given.puts.store c.in_err-sector.ensures.cause c.from_residual-in_err-sector.result c.from_residual-in_err-sector.ensures
+
+pub returns-in_err-give_listed-2-clause-cause : goal.returns-in_err-give_listed-2-clause-cause
+returns-in_err-give_listed-2-clause-cause g c =
+    fault_on (store_joined c.loop-j.invariant.given.puts.store c.in_ok-sector.ensures.same.store) c.in_err-give_listed-2.ensures.cause c.from_residual-in_err-give_listed-2.result
+    c.from_residual-in_err-give_listed-2.ensures
+
+pub returns-clause-store : goal.returns-clause-store
+returns-clause-store g c = c.loop-j.invariant.given.puts.store
+
+pub returns-clause-cause : goal.returns-clause-cause
+returns-clause-cause g c = no_fault c.loop-j.invariant.given.puts.store

@@ -14,6 +14,7 @@ use Rattle.block_map.specs.Steps.{FillsSectors}
 use Rattle.block_map.proofs.Numbers.{loaded_sector}
 use Rattle.block_map.proofs.Running.{loaded_data, run_written, run_puts}
 use Rattle.block_map.proofs.Writings.{shares_pointers}
+use Rattle.block_map.proofs.Runs.{no_fault_of}
 use Rattle.block_map.proofs.run.write_run.Goals as goal
 
 pub put-requires-clause-part : goal.put-requires-clause-part
@@ -62,3 +63,9 @@ returns-clause-at_hand g c =
       is = λ has. sym c.put.ensures.sectors.here;
       none = λ zero. absurd (some zero);
     }
+
+pub returns-clause-store : goal.returns-clause-store
+returns-clause-store g c = store_joined (store_joined c.in_ok-take_all.ensures.store c.fill_sectors.ensures.puts.store) c.put.ensures.store
+
+pub returns-clause-cause : goal.returns-clause-cause
+returns-clause-cause g c = no_fault_of (store_joined (store_joined c.in_ok-take_all.ensures.store c.fill_sectors.ensures.puts.store) c.put.ensures.store)

@@ -7,6 +7,7 @@ use Rattle.block_map.proofs.Sizing.{may_change, size_limit}
 use Rattle.block_map.specs.Drops.{cut_by}
 use Rattle.block_map.specs.Sizes.{put_to}
 use Rattle.block_map.specs.Steps.{blocks_to}
+use Rattle.block_map.proofs.Runs.{no_fault_of, other_fault_on}
 use Rattle.block_map.proofs.size.set_size.Goals as goal
 
 pub resize-requires-clause-may : goal.resize-requires-clause-may
@@ -40,3 +41,13 @@ returns-clause-whole g c = λ none less. HasNoHole-kept (ended g c).keeps (c.in_
 
 pub returns-clause-store : goal.returns-clause-store
 returns-clause-store g c = store_joined c.in_ok-resize.ensures.store c.in_ok-write_inode.ensures.store
+
+pub returns-in_err-write_inode-clause-store : goal.returns-in_err-write_inode-clause-store
+returns-in_err-write_inode-clause-store g c = store_joined c.in_ok-resize.ensures.store c.in_err-write_inode.ensures.store
+
+pub returns-in_err-write_inode-clause-cause : goal.returns-in_err-write_inode-clause-cause
+returns-in_err-write_inode-clause-cause g c =
+    other_fault_on c.in_ok-resize.ensures.store c.in_err-write_inode.ensures.cause c.from_residual-in_err-write_inode.result c.from_residual-in_err-write_inode.ensures.0
+
+pub returns-clause-cause : goal.returns-clause-cause
+returns-clause-cause g c = no_fault_of (store_joined c.in_ok-resize.ensures.store c.in_ok-write_inode.ensures.store)

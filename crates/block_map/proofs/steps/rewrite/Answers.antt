@@ -1,7 +1,8 @@
 use Rattle.std.proofs.Common.{List, ℕ, [], refl, subst, ◌∙◌, arith}
 use Rattle.fs_layout.specs.InodeChanges.{Puts}
-use Rattle.sector_txn.proofs.TransactionRuns.{changes_nothing, changes_put}
+use Rattle.sector_txn.proofs.TransactionRuns.{changes_nothing, changes_put, store_joined}
 use Rattle.block_map.proofs.Rewritten.{rewritten, written_whole}
+use Rattle.block_map.proofs.Runs.{no_fault}
 use Rattle.block_map.proofs.steps.rewrite.Goals as goal
 
 pub returns-in-Some-clause-written : goal.returns-in-Some-clause-written
@@ -18,3 +19,9 @@ returns-clause-written g c =
 
 pub returns-in-Some-clause-puts : goal.returns-in-Some-clause-puts
 returns-in-Some-clause-puts g c = changes_put (changes_nothing []) c.put.ensures refl
+
+pub returns-clause-store : goal.returns-clause-store
+returns-clause-store g c = store_joined c.in_ok-get.ensures.same.store c.put-2.ensures.store
+
+pub returns-clause-cause : goal.returns-clause-cause
+returns-clause-cause g c = no_fault (store_joined c.in_ok-get.ensures.same.store c.put-2.ensures.store)

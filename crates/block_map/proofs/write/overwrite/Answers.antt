@@ -8,6 +8,8 @@ use Rattle.block_map.specs.Steps.{MayChange}
 use Rattle.block_map.proofs.Numbers.{number_within}
 use Rattle.block_map.proofs.Overwriting.{used_may_change, loaded_number, over_changes, over_holds, over_whole}
 use Rattle.block_map.proofs.Wrote.{block_whole, may_within}
+use Rattle.block_map.proofs.Runs.{fault_on, no_fault}
+use Rattle.sector_txn.proofs.TransactionRuns.{store_joined}
 use Rattle.block_map.proofs.write.overwrite.Goals as goal
 
 pub load-requires-clause-within : goal.load-requires-clause-within
@@ -66,3 +68,15 @@ returns-clause-whole g c =
     over_whole (c.args.offset / 512) (c.args.offset % 512) c.args.bytes.now c.requires.sound c.requires.below c.requires.inode c.requires.used c.in_ok-load.ensures.same
     (sym (number_is g c)) (some_number g c) c.requires.one_block (λ i. let f = c.type_inv.bytes i in search rules) (omega (arith, c.requires.inside))
     c.in_ok-rewrite.ensures.written c.in_ok-rewrite.ensures.puts
+
+pub returns-in_err-rewrite-clause-store : goal.returns-in_err-rewrite-clause-store
+returns-in_err-rewrite-clause-store g c = store_joined c.in_ok-load.ensures.same.store c.in_err-rewrite.ensures.store
+
+pub returns-in_err-rewrite-clause-cause : goal.returns-in_err-rewrite-clause-cause
+returns-in_err-rewrite-clause-cause g c = fault_on c.in_ok-load.ensures.same.store c.in_err-rewrite.ensures.cause c.from_residual-in_err-rewrite.result c.from_residual-in_err-rewrite.ensures
+
+pub returns-clause-store : goal.returns-clause-store
+returns-clause-store g c = store_joined c.in_ok-load.ensures.same.store c.in_ok-rewrite.ensures.store
+
+pub returns-clause-cause : goal.returns-clause-cause
+returns-clause-cause g c = no_fault (store_joined c.in_ok-load.ensures.same.store c.in_ok-rewrite.ensures.store)

@@ -9,7 +9,7 @@ use Rattle.block_map.specs.Steps.{MayChange, taken_by, put_by}
 use Rattle.block_map.proofs.Alterings.{may_after}
 use Rattle.block_map.proofs.Sizing.{may_change, sized, size_limit}
 use Rattle.block_map.proofs.Rooms.{spare_last}
-use Rattle.block_map.proofs.Runs.{same_fault}
+use Rattle.block_map.proofs.Runs.{same_fault, other_fault_on, no_fault_of}
 use Rattle.block_map.proofs.Wrote.{limit_at, taken_few, taken_most, taken_same, wrote, wrote_held, wrote_whole}
 use Rattle.std.specs.Prelude.{max}
 use Rattle.block_map.specs.Contents.{AllowsSize}
@@ -92,3 +92,13 @@ returns-clause-few_taken g c = λ few.
 pub returns-clause-store : goal.returns-clause-store
 returns-clause-store g c =
     store_joined c.in_ok-write_blocks.ensures.store c.in_ok-write_inode.ensures.store
+
+pub returns-in_err-write_inode-clause-store : goal.returns-in_err-write_inode-clause-store
+returns-in_err-write_inode-clause-store g c = store_joined c.in_ok-write_blocks.ensures.store c.in_err-write_inode.ensures.store
+
+pub returns-in_err-write_inode-clause-cause : goal.returns-in_err-write_inode-clause-cause
+returns-in_err-write_inode-clause-cause g c =
+    other_fault_on c.in_ok-write_blocks.ensures.store c.in_err-write_inode.ensures.cause c.from_residual-in_err-write_inode.result c.from_residual-in_err-write_inode.ensures.0
+
+pub returns-clause-cause : goal.returns-clause-cause
+returns-clause-cause g c = no_fault_of (store_joined c.in_ok-write_blocks.ensures.store c.in_ok-write_inode.ensures.store)

@@ -6,7 +6,7 @@ use Rattle.block_map.specs.Steps.{WritesRun, HasRoomFor, pointers_of, pointers_t
 use Rattle.block_map.proofs.Alterings.{may_after}
 use Rattle.block_map.proofs.Loops.{IsWritten, none_written, written_then, more_written, run_of, run_more, all_written, block_lacks, run_lacks, room_for_blocks, pointers_lack}
 use Rattle.block_map.proofs.Numbers.{loaded_unchanged}
-use Rattle.block_map.proofs.Runs.{same_fault, cause_on, map_fault_on}
+use Rattle.block_map.proofs.Runs.{same_fault, cause_on, other_fault_on}
 use Rattle.block_map.proofs.Wrote.{may_within}
 use Rattle.block_map.proofs.write.write_blocks.Goals as goal
 
@@ -34,7 +34,7 @@ returns-in_err-load-clause-store g c =
 
 pub returns-in_err-load-clause-cause : goal.returns-in_err-load-clause-cause
 returns-in_err-load-clause-cause g c =
-    map_fault_on (store_joined c.in_ok-add_pointers.ensures.store c.loop-k.invariant.written.puts.store) c.in_err-load.ensures.cause c.from_residual-in_err-load.result
+    other_fault_on (store_joined c.in_ok-add_pointers.ensures.store c.loop-k.invariant.written.puts.store) c.in_err-load.ensures.cause c.from_residual-in_err-load.result
     c.from_residual-in_err-load.ensures.0
 
 -- ---- a run
