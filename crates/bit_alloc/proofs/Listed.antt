@@ -34,6 +34,12 @@ listed_earlier le w = record { place = w.place; from = omega (arith, w.from, le)
 pub none_listed : {numbers : List ℕ} {from n : ℕ} → IsNumberOf numbers from from n → ⊥
 none_listed w = omega (arith, w.from, w.before)
 
+-- a zero is none
+pub listed_zero : {numbers : List ℕ} {from n : ℕ} → IsNumberOf numbers from (from + 1) n → get_or numbers from 0 ≡ 0 → ⊥
+listed_zero {numbers} {from} w none =
+    let here : w.place ≡ from = omega (arith, w.from, w.before) in
+    w.some (sym w.is ∙ ap (λ (i : ℕ). get_or numbers i 0) here ∙ none)
+
 -- the first is one that the bitmap keeps, if each is
 pub first_kept : (p : Geometry) (map : Bitmap) {numbers : List ℕ} {from : ℕ} → ((n : ℕ) → IsNumberOf numbers 0 (length numbers) n → IsNumber p map n) → from < length numbers
     → get_or numbers from 0 ≢ 0 → IsNumber p map (get_or numbers from 0)

@@ -16,7 +16,7 @@ use Rattle.sector_txn.proofs.TransactionRuns.{room_for, changes_weaker}
 use Rattle.bit_alloc.specs.declared.bitmap.Bitmap.{Bitmap}
 use Rattle.bit_alloc.specs.declared.bitmap.Bitmap.TheVariants.{Inodes, Blocks}
 use Rattle.bit_alloc.specs.Bits.{SetsNumber, SetsListed}
-use Rattle.bit_alloc.specs.Bitmaps.{first_sector, bit_count, least, IsNumber, IsNumberOf, free_numbers, IsSectorOf, IsMapSector, Marks, TakesNumber, TakesNumbers, HasRestSet, HasBitmaps}
+use Rattle.bit_alloc.specs.Bitmaps.{first_sector, bit_count, least, IsNumber, IsNumberOf, free_numbers, sector_of, IsSectorOf, IsMapSector, Marks, TakesNumber, TakesNumbers, HasRestSet, HasBitmaps}
 use Rattle.bit_alloc.specs.Room.{bitmaps, HasSpare}
 use Rattle.bit_alloc.proofs.Chains.{chain_none, chain_weaker, chain_joined, chain_one}
 use Rattle.bit_alloc.proofs.Listed.{bit_set_same, bit_set_other, seen, listed_put}
@@ -273,3 +273,18 @@ listed_puts_same same puts =
       has = let h = w.has in record { place = h.place; from = h.from; before = h.before; is = same h.place h.before ∙ h.is; some = h.some };
       is = w.is;
     }) (omega arith) puts
+
+-- ---- one number is taken
+module _ {p : Geometry} {map : Bitmap} {numbers : List ℕ} {end : ℕ} (some : 0 < end) (most : end ≤ 1) where
+  pub takes_first : {old new : SectorMap} → TakesNumbers p map numbers 0 end old new → TakesNumber p map (get_or numbers 0 0) old new
+  takes_first {old} {new} takes =
+      let run = takes.steps in
+      let last : 0 + 1 ≡ end = omega arith in
+      subst (λ (image : SectorMap). TakesNumber p map (get_or numbers 0 0) image new) run.first
+      (subst (λ (image : SectorMap). TakesNumber p map (get_or numbers 0 0) (run.until 0) image) (ap run.until last ∙ run.last) (run.each 0 (omega arith) some))
+
+  pub puts_first : {old new : TxnState} → PutsOnly (IsSectorOf p map (IsNumberOf numbers 0 end)) (bitmaps p) 0 old new
+      → PutsOnly (λ t. t ≡ sector_of p map (get_or numbers 0 0)) (bitmaps p) 0 old new
+  puts_first = changes_weaker (λ n is.
+      let first : is.has.place ≡ 0 = omega (arith, is.has.before, most) in
+      is.is ∙ ap (sector_of p map) (sym is.has.is ∙ ap (λ (i : ℕ). get_or numbers i 0) first)) (omega arith)

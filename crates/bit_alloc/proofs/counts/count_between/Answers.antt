@@ -5,6 +5,7 @@ use Rattle.bit_alloc.specs.Bits.{clear_below}
 use Rattle.bit_alloc.specs.Bitmaps.{first_sector}
 use Rattle.bit_alloc.proofs.Transactions.{unchanged_nothing, unchanged_joined}
 use Rattle.bit_alloc.proofs.Maps.{sector_counted, fewer_counted, few_counted}
+use Rattle.bit_alloc.proofs.Passing.{fault_on, no_fault}
 use Rattle.bit_alloc.proofs.counts.count_between.Goals as goal
 
 pub loop-k-init : goal.loop-k-init
@@ -59,3 +60,15 @@ returns-clause-all g c = λ less.
     let all : 4096 * c.loop-k.k ≡ 4096 * c.args.to = omega (arith, c.loop-k.auto.k-end, c.loop-k-test.false, c.requires.range.0) in
     let end : clear_below image start (4096 * c.loop-k.k) ≡ clear_below image start (4096 * c.args.to) = ap (clear_below image start) all in
     omega (arith, c.loop-k.invariant.all less, end)
+
+pub returns-in_err-get-clause-same : goal.returns-in_err-get-clause-same
+returns-in_err-get-clause-same g c = unchanged_joined c.loop-k.invariant.same c.in_err-get.ensures.same
+
+pub returns-in_err-get-clause-cause : goal.returns-in_err-get-clause-cause
+returns-in_err-get-clause-cause g c = fault_on c.loop-k.invariant.same.store c.in_err-get.ensures.cause c.from_residual.result c.from_residual.ensures
+
+pub returns-then-free-enough-clause-cause : goal.returns-then-free-enough-clause-cause
+returns-then-free-enough-clause-cause g c = no_fault c.loop-k.invariant.same.store
+
+pub returns-clause-cause : goal.returns-clause-cause
+returns-clause-cause g c = no_fault c.loop-k.invariant.same.store

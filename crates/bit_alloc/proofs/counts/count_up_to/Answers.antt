@@ -5,8 +5,9 @@ use Rattle.bit_alloc.specs.declared.bitmap.Bitmap.{Bitmap}
 use Rattle.sector_txn.specs.Sectors.{TxnState}
 use Rattle.bit_alloc.specs.Bits.{clear_below}
 use Rattle.bit_alloc.specs.Bitmaps.{first_sector, bit_count, free_numbers, HasBitmaps}
-use Rattle.bit_alloc.proofs.Transactions.{map_unchanged, bitmaps_unchanged}
+use Rattle.bit_alloc.proofs.Transactions.{map_unchanged, bitmaps_unchanged, unchanged_joined}
 use Rattle.bit_alloc.proofs.Maps.{none_counted, numbers_counted, few_free}
+use Rattle.bit_alloc.proofs.Passing.{fault_on, no_fault}
 use Rattle.bit_alloc.proofs.counts.count_up_to.Goals as goal
 
 -- what the whole bitmap has clear are its free numbers
@@ -63,3 +64,18 @@ returns-clause-all g c = λ less.
     let total = all_counted c.args.geometry c.args.map old c.sectors-sectors.result c.requires c.sectors-sectors.ensures in
     all_of_them old.sectors mid.sectors (first_sector c.args.geometry c.args.map) _ c.sectors-sectors.result _ _ (map_unchanged c.count_between.ensures.same)
     (c.in_ok-free.ensures.all (omega (arith, less))) (c.in_ok-count_between.ensures.all (omega (arith, less))) ∙ total
+
+pub returns-then-free-enough-clause-cause : goal.returns-then-free-enough-clause-cause
+returns-then-free-enough-clause-cause g c = no_fault c.count_between.ensures.same.store
+
+pub returns-in_err-count_between-clause-same : goal.returns-in_err-count_between-clause-same
+returns-in_err-count_between-clause-same g c = unchanged_joined c.count_between.ensures.same c.in_err-count_between.ensures.same
+
+pub returns-in_err-count_between-clause-cause : goal.returns-in_err-count_between-clause-cause
+returns-in_err-count_between-clause-cause g c = fault_on c.count_between.ensures.same.store c.in_err-count_between.ensures.cause c.from_residual-in_err-count_between.result c.from_residual-in_err-count_between.ensures
+
+pub returns-clause-same : goal.returns-clause-same
+returns-clause-same g c = unchanged_joined c.count_between.ensures.same c.in_ok-count_between.ensures.same
+
+pub returns-clause-cause : goal.returns-clause-cause
+returns-clause-cause g c = no_fault (unchanged_joined c.count_between.ensures.same c.in_ok-count_between.ensures.same).store

@@ -3,6 +3,7 @@ use Rattle.fs_layout.specs.Bytes.{SectorMap}
 use Rattle.bit_alloc.specs.Bitmaps.{GivesNumber}
 use Rattle.bit_alloc.proofs.Marking.{one_more_free}
 use Rattle.bit_alloc.proofs.Transactions.{map_unchanged, bitmaps_unchanged, puts_after}
+use Rattle.bit_alloc.proofs.Passing.{no_fault}
 use Rattle.bit_alloc.proofs.marks.give.Goals as goal
 
 pub clear_bit-requires-clause-bitmaps : goal.clear_bit-requires-clause-bitmaps
@@ -22,3 +23,6 @@ returns-clause-given g c =
 
 pub returns-clause-puts : goal.returns-clause-puts
 returns-clause-puts g c = puts_after c.in_ok-get.ensures.same c.clear_bit.ensures.puts
+
+pub returns-clause-cause : goal.returns-clause-cause
+returns-clause-cause g c = no_fault (returns-clause-puts g c).store

@@ -1,11 +1,12 @@
 use Rattle.std.proofs.Common.{◌≡◌, ◌<◌, ℕ, List, length, subst, arith}
 use Rattle.sector_txn.specs.Sectors.{PutsOnly}
-use Rattle.sector_txn.proofs.TransactionRuns.{changes_nothing}
+use Rattle.sector_txn.proofs.TransactionRuns.{changes_nothing, store_joined}
 use Rattle.bit_alloc.specs.Bitmaps.{bit_count, IsNumberOf, IsSectorOf, GivesNumbers}
 use Rattle.bit_alloc.specs.Room.{bitmaps}
 use Rattle.bit_alloc.proofs.Listed.{gives_joined, gives_none, listed_puts, listed_wider, none_listed}
 use Rattle.bit_alloc.proofs.Maps.{number_has_bit}
 use Rattle.bit_alloc.proofs.Soundness.{spare_then}
+use Rattle.bit_alloc.proofs.Passing.{fault_on, no_fault}
 use Rattle.bit_alloc.proofs.marks.give_all.Goals as goal
 
 pub loop-at-init : goal.loop-at-init
@@ -50,3 +51,15 @@ returns-clause-puts g c =
     let end : c.loop-at.at ≡ length c.args.numbers.now = omega (arith, c.loop-at-test.false, within) in
     subst (λ (m : ℕ). PutsOnly (IsSectorOf c.args.geometry c.args.map (IsNumberOf c.args.numbers.now 0 m)) (bitmaps c.args.geometry) 0 (g.S.Sectors.state c.args.s.now) (g.S.Sectors.state c.loop-at.s)) end
     c.loop-at.invariant.puts
+
+pub returns-in_err-at-clause-store : goal.returns-in_err-at-clause-store
+returns-in_err-at-clause-store g c = store_joined c.loop-at.invariant.puts.store c.in_err-at.ensures.unchanged.store
+
+pub returns-in_err-at-clause-cause : goal.returns-in_err-at-clause-cause
+returns-in_err-at-clause-cause g c = fault_on c.loop-at.invariant.puts.store c.in_err-at.ensures.cause c.from_residual.result c.from_residual.ensures
+
+pub returns-clause-store : goal.returns-clause-store
+returns-clause-store g c = c.loop-at.invariant.puts.store
+
+pub returns-clause-cause : goal.returns-clause-cause
+returns-clause-cause g c = no_fault c.loop-at.invariant.puts.store

@@ -4,9 +4,12 @@ use Rattle.fs_layout.specs.Bytes.{SectorMap}
 use Rattle.fs_layout.specs.InodeChanges.{Puts}
 use Rattle.sector_txn.specs.Sectors.{IsPut}
 use Rattle.bit_alloc.specs.Bitmaps.{first_sector, IsNumberOf, GivesNumbers}
-use Rattle.bit_alloc.proofs.Listed.{bitmaps_given, first_kept, gives_listed, in_disk, in_map, listed_earlier, listed_put, listed_wider}
+use Rattle.bit_alloc.proofs.Listed.{bitmaps_given, first_kept, gives_listed, in_disk, in_map, listed_earlier, listed_put, listed_wider, gives_none, listed_zero}
 use Rattle.bit_alloc.proofs.Marking.{room_to_mark}
 use Rattle.bit_alloc.proofs.Transactions.{bitmaps_unchanged, map_unchanged, puts_after, spare_unchanged}
+use Rattle.bit_alloc.proofs.Passing.{fault_on, no_fault, through_try}
+use Rattle.sector_txn.proofs.TransactionRuns.{store_same, changes_nothing}
+use Rattle.bit_alloc.specs.Room.{bitmaps}
 use Rattle.bit_alloc.proofs.marks.give_next.Goals as goal
 
 pub get-requires-clause-on_disk : goal.get-requires-clause-on_disk
@@ -73,3 +76,21 @@ returns-clause-bitmaps g c =
     let within = c.clear_listed-end.ensures.within in
     bitmaps_given c.requires.bitmaps (returns-clause-puts g c).store
     (λ n w. c.requires.numbers n (listed_wider within.1 (listed_earlier (omega arith) w))) (returns-clause-given g c)
+
+pub returns-then-numbers-from-eq0-clause-given : goal.returns-then-numbers-from-eq0-clause-given
+returns-then-numbers-from-eq0-clause-given g c = gives_none c.requires.bitmaps.tables (λ n w. listed_zero w c.if-numbers-from-eq0.true)
+
+pub returns-then-numbers-from-eq0-clause-puts : goal.returns-then-numbers-from-eq0-clause-puts
+returns-then-numbers-from-eq0-clause-puts g c = changes_nothing (bitmaps c.args.geometry)
+
+pub returns-then-numbers-from-eq0-clause-cause : goal.returns-then-numbers-from-eq0-clause-cause
+returns-then-numbers-from-eq0-clause-cause g c = no_fault {old = g.S.Sectors.state c.args.s.now} store_same
+
+pub returns-in_err-get-clause-unchanged : goal.returns-in_err-get-clause-unchanged
+returns-in_err-get-clause-unchanged g c = through_try _ c.from_residual.result c.in_err-get.field-0.0 c.from_residual.ensures c.in_err-get.ensures.same
+
+pub returns-in_err-get-clause-cause : goal.returns-in_err-get-clause-cause
+returns-in_err-get-clause-cause g c = fault_on {old = g.S.Sectors.state c.args.s.now} store_same c.in_err-get.ensures.cause c.from_residual.result c.from_residual.ensures
+
+pub returns-clause-cause : goal.returns-clause-cause
+returns-clause-cause g c = no_fault (returns-clause-puts g c).store

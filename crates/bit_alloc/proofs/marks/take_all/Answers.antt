@@ -1,8 +1,8 @@
 use Rattle.std.proofs.Common.{◌≡◌, ◌<◌, ◌∙◌, refl, arith, ℕ, get_or}
-use Rattle.sector_txn.proofs.TransactionRuns.{changes_nothing}
+use Rattle.sector_txn.proofs.TransactionRuns.{changes_nothing, store_joined}
 use Rattle.bit_alloc.specs.Room.{bitmaps}
 use Rattle.bit_alloc.proofs.Listed.{listed_puts}
-use Rattle.bit_alloc.proofs.Passing.{through_try}
+use Rattle.bit_alloc.proofs.Passing.{through_try, cause_on, no_fault_of}
 use Rattle.bit_alloc.proofs.Soundness.{spare_then}
 use Rattle.bit_alloc.proofs.Taking.{takes_none, takes_joined, fewer_free, listed_puts_same}
 use Rattle.bit_alloc.proofs.marks.take_all.Goals as goal
@@ -39,3 +39,17 @@ returns-in_err-at-clause-full g c =
     let none = c.in_err-at.ensures.full is in
     let count = fewer_free x.taken (omega arith) in
     omega (arith, none, count, c.loop-at-test.true, x.len))
+
+pub returns-in_err-at-clause-store : goal.returns-in_err-at-clause-store
+returns-in_err-at-clause-store g c = store_joined c.loop-at.invariant.puts.store c.in_err-at.ensures.unchanged.store
+
+pub returns-in_err-at-clause-cause : goal.returns-in_err-at-clause-cause
+returns-in_err-at-clause-cause g c =
+    let e = c.from_residual.ensures in
+    cause_on c.loop-at.invariant.puts.store c.in_err-at.ensures.cause c.from_residual.result e.0 e.1
+
+pub returns-clause-store : goal.returns-clause-store
+returns-clause-store g c = c.loop-at.invariant.puts.store
+
+pub returns-clause-cause : goal.returns-clause-cause
+returns-clause-cause g c = no_fault_of c.loop-at.invariant.puts.store

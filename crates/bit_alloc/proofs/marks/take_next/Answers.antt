@@ -12,6 +12,7 @@ use Rattle.bit_alloc.specs.Bitmaps.{first_sector, bit_count}
 use Rattle.bit_alloc.proofs.Maps.{bit_in_sector, all_set, numbers_counted}
 use Rattle.bit_alloc.proofs.Taking.{map_sector, room_for_map, takes_listed, takes_after, bitmaps_taken, taken_puts}
 use Rattle.bit_alloc.proofs.Transactions.{unchanged_joined, map_unchanged, bitmaps_unchanged, spare_unchanged, puts_after}
+use Rattle.bit_alloc.proofs.Passing.{through_try, other_fault_on, no_fault_of}
 use Rattle.bit_alloc.proofs.marks.take_next.Goals as goal
 
 -- ---- m sectors in turn, from some one on
@@ -87,3 +88,15 @@ returns-clause-full g c = λ full.
     let set = set_in_all image (first_sector c.args.geometry c.args.map) (c.first_sought-first.result) sectors (λ j low. c.loop-turn.invariant.full j (omega (arith, low, end))) in
     sym (numbers_counted c.args.geometry c.args.map image c.requires.bitmaps.geometry c.requires.bitmaps.rest)
     ∙ all_set image (first_sector c.args.geometry c.args.map) (bit_count c.args.geometry c.args.map) (λ i low. set i (omega (arith, low, c.sectors-sectors.ensures)))
+
+pub returns-in_err-get-clause-unchanged : goal.returns-in_err-get-clause-unchanged
+returns-in_err-get-clause-unchanged g c = through_try _ c.from_residual.result _ c.from_residual.ensures (unchanged_joined c.loop-turn.invariant.same c.in_err-get.ensures.same)
+
+pub returns-in_err-get-clause-cause : goal.returns-in_err-get-clause-cause
+returns-in_err-get-clause-cause g c = other_fault_on c.loop-turn.invariant.same.store c.in_err-get.ensures.cause c.from_residual.result c.from_residual.ensures.0
+
+pub returns-then-end-from-clause-cause : goal.returns-then-end-from-clause-cause
+returns-then-end-from-clause-cause g c = no_fault_of (store_joined (unchanged_joined c.loop-turn.invariant.same c.in_ok-get.ensures.same).store c.put.ensures.store)
+
+pub returns-clause-unchanged : goal.returns-clause-unchanged
+returns-clause-unchanged g c = c.loop-turn.invariant.same

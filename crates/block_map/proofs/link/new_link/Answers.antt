@@ -1,10 +1,9 @@
 use Rattle.std.proofs.Common.{length, refl, sym, ◌∙◌, arith, inr}
 use Rattle.bit_alloc.proofs.Soundness.{free_kept, sound_then}
-use Rattle.bit_alloc.proofs.Passing.{through_try}
+use Rattle.bit_alloc.proofs.Passing.{through_try, cause_on, other_fault_on, no_fault_of}
 use Rattle.block_map.proofs.Linking.{link_fits, IsMade, link_made}
 use Rattle.block_map.proofs.Rewritten.{filled}
 use Rattle.sector_txn.proofs.TransactionRuns.{store_joined}
-use Rattle.block_map.proofs.Runs.{cause_on, other_fault_on, no_fault_of}
 use Rattle.block_map.proofs.link.new_link.Goals as goal
 
 pub returns-in_err-link-clause-full : goal.returns-in_err-link-clause-full

@@ -9,7 +9,8 @@ use Rattle.block_map.proofs.AddedPointers.{one_lacks}
 use Rattle.block_map.proofs.Adding.{IsAdded, above_of, above_at, above_lacks, all_added, first_block_grows, first_block_held, has_above, more_numbers, named_added, named_lacks, none_added, number_lacks, room_for_number, spare_above, stands}
 use Rattle.block_map.proofs.Alterings.{may_after}
 use Rattle.block_map.proofs.Counts.{most_least}
-use Rattle.block_map.proofs.Runs.{same_fault, cause_on, no_fault_of}
+use Rattle.bit_alloc.proofs.Passing.{cause_on, no_fault_of}
+use Rattle.block_map.proofs.Runs.{same_fault}
 use Rattle.block_map.proofs.pointers.+add_numbers.Goals as goal
 
 -- ---- the first alone

@@ -9,7 +9,8 @@ use Rattle.block_map.specs.Steps.{AddsSector}
 use Rattle.block_map.proofs.AddedPointers.{sector_there, added_after, read_above}
 use Rattle.block_map.proofs.Givings.{may_unchanged}
 use Rattle.block_map.proofs.Numbers.{at_hand_unchanged, next_pointers}
-use Rattle.block_map.proofs.Runs.{same_fault, same_map, cause_on, no_fault_of}
+use Rattle.bit_alloc.proofs.Passing.{cause_on, no_fault_of}
+use Rattle.block_map.proofs.Runs.{same_fault, same_map}
 use Rattle.block_map.proofs.Wrote.{free_same, may_within}
 use Rattle.block_map.proofs.pointers.add_listed.Goals as goal
 

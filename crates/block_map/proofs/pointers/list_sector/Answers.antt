@@ -11,7 +11,7 @@ use Rattle.block_map.proofs.Numbers.{listed_within}
 use Rattle.block_map.proofs.Rewritten.{was_full}
 use Rattle.block_map.proofs.Rooms.{lacking_beside, lacking_unput, puts_beside}
 use Rattle.block_map.proofs.Wrote.{may_within, pointers_puts}
-use Rattle.block_map.proofs.Runs.{no_fault_of}
+use Rattle.bit_alloc.proofs.Passing.{no_fault_of}
 use Rattle.block_map.proofs.pointers.list_sector.Goals as goal
 
 pub take_sector-requires-clause-room : goal.take_sector-requires-clause-room

@@ -5,7 +5,8 @@ use Rattle.fs_layout.specs.Header.{log_end}
 use Rattle.fs_layout.specs.Images.{pointer, byte_in}
 use Rattle.block_map.specs.Blocks.{IsWithin}
 use Rattle.block_map.proofs.Numbers.{at_hand_before, at_hand_unchanged, number_within, pointer_before, within_unchanged}
-use Rattle.block_map.proofs.Runs.{unchanged_joined, same_map, fault_on, no_fault}
+use Rattle.bit_alloc.proofs.Passing.{fault_on, no_fault}
+use Rattle.block_map.proofs.Runs.{unchanged_joined, same_map}
 use Rattle.block_map.proofs.Reading.{more_read, none_read, all_read}
 use Rattle.sector_txn.proofs.TransactionRuns.{store_joined}
 use Rattle.block_map.proofs.read.read_at.Goals as goal

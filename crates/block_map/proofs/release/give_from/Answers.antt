@@ -2,7 +2,7 @@ use Rattle.std.proofs.Common.{◌≡◌, ◌+◌, ℕ, suc, ap, subst, ◌∙◌
 use Rattle.fs_layout.specs.declared.inode.TheConstants.{POINTER_LEVELS}
 use Rattle.block_map.specs.Drops.{GivesParts, IsFrom, first_above, first_on}
 use Rattle.block_map.proofs.Givings.{IsForBelow, all_given, given_keeps, in_data, in_data_kept, more_given}
-use Rattle.block_map.proofs.Runs.{fault_on, no_fault}
+use Rattle.bit_alloc.proofs.Passing.{fault_on, no_fault}
 use Rattle.sector_txn.proofs.TransactionRuns.{store_joined}
 use Rattle.block_map.proofs.release.give_from.Goals as goal
 

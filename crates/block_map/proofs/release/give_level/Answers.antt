@@ -10,7 +10,7 @@ use Rattle.bit_alloc.proofs.Soundness.{spare_then}
 use Rattle.block_map.specs.Drops.{GivesParts, IsAmong}
 use Rattle.block_map.proofs.Numbers.{data_within, has_unchanged, listed_pointers}
 use Rattle.block_map.proofs.Givings.{given_keeps, given_unchanged, holes_given, in_data_kept, level_given, next_given, none_listed}
-use Rattle.block_map.proofs.Runs.{fault_on, no_fault}
+use Rattle.bit_alloc.proofs.Passing.{fault_on, no_fault}
 use Rattle.block_map.proofs.release.give_level.Goals as goal
 use Rattle.block_map.proofs.release.give_level.Goals.{then-sector-ne0+in_ok-give_listed-2, else-sector-ne0}
 

@@ -2,7 +2,7 @@ use Rattle.std.proofs.Common.{sym, arith}
 use Rattle.block_map.proofs.Givings.{empties, emptied_holds}
 use Rattle.block_map.proofs.Saving.{saved_after}
 use Rattle.block_map.proofs.Sizing.{may_change}
-use Rattle.block_map.proofs.Runs.{fault_on, no_fault}
+use Rattle.bit_alloc.proofs.Passing.{fault_on, no_fault}
 use Rattle.sector_txn.proofs.TransactionRuns.{store_joined}
 use Rattle.block_map.proofs.release.release_all.Goals as goal
 

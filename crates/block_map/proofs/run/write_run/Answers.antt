@@ -14,7 +14,7 @@ use Rattle.block_map.specs.Steps.{FillsSectors}
 use Rattle.block_map.proofs.Numbers.{loaded_sector}
 use Rattle.block_map.proofs.Running.{loaded_data, run_written, run_puts}
 use Rattle.block_map.proofs.Writings.{shares_pointers}
-use Rattle.block_map.proofs.Runs.{no_fault_of}
+use Rattle.bit_alloc.proofs.Passing.{no_fault_of}
 use Rattle.block_map.proofs.run.write_run.Goals as goal
 
 pub put-requires-clause-part : goal.put-requires-clause-part

@@ -1,7 +1,7 @@
 use Rattle.std.proofs.Common.{◌+◌, ap, arith}
 use Rattle.fs_layout.specs.Header.{log_end}
 use Rattle.block_map.proofs.Numbers.{listed_within}
-use Rattle.block_map.proofs.Runs.{no_fault}
+use Rattle.bit_alloc.proofs.Passing.{no_fault}
 use Rattle.sector_txn.proofs.TransactionRuns.{store_joined}
 use Rattle.block_map.proofs.size.cut_level.Goals as goal
 

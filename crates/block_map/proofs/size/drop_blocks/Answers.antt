@@ -6,7 +6,7 @@ use Rattle.sector_txn.proofs.TransactionRuns.{store_joined}
 use Rattle.block_map.specs.Drops.{CutsLevel, DropsBlocks, ClearsNumbers, cut_by, first_above, first_on}
 use Rattle.block_map.proofs.Dropping.{AreCut, none_cut, more_cut, cut_within, drops, given_same, room_for_cut}
 use Rattle.block_map.proofs.Rooms.{spare_none}
-use Rattle.block_map.proofs.Runs.{fault_on, no_fault}
+use Rattle.bit_alloc.proofs.Passing.{fault_on, no_fault}
 use Rattle.block_map.proofs.Wrote.{may_within}
 use Rattle.block_map.proofs.size.drop_blocks.Goals as goal
 

@@ -12,7 +12,7 @@ use Rattle.block_map.proofs.Alterings.{may_after}
 use Rattle.block_map.proofs.Givings.{may_unchanged}
 use Rattle.block_map.proofs.Resizing.{grows, resizes, resizes_last}
 use Rattle.block_map.proofs.Rooms.{spare_after_one, spare_one}
-use Rattle.block_map.proofs.Runs.{no_fault, fault_on}
+use Rattle.bit_alloc.proofs.Passing.{no_fault, fault_on}
 use Rattle.block_map.proofs.size.resize.Goals as goal
 
 pub load-requires-clause-within : goal.load-requires-clause-within

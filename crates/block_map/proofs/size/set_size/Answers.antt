@@ -7,7 +7,7 @@ use Rattle.block_map.proofs.Sizing.{may_change, size_limit}
 use Rattle.block_map.specs.Drops.{cut_by}
 use Rattle.block_map.specs.Sizes.{put_to}
 use Rattle.block_map.specs.Steps.{blocks_to}
-use Rattle.block_map.proofs.Runs.{no_fault_of, other_fault_on}
+use Rattle.bit_alloc.proofs.Passing.{no_fault_of, other_fault_on}
 use Rattle.block_map.proofs.size.set_size.Goals as goal
 
 pub resize-requires-clause-may : goal.resize-requires-clause-may

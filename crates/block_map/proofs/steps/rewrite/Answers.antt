@@ -2,7 +2,7 @@ use Rattle.std.proofs.Common.{List, ℕ, [], refl, subst, ◌∙◌, arith}
 use Rattle.fs_layout.specs.InodeChanges.{Puts}
 use Rattle.sector_txn.proofs.TransactionRuns.{changes_nothing, changes_put, store_joined}
 use Rattle.block_map.proofs.Rewritten.{rewritten, written_whole}
-use Rattle.block_map.proofs.Runs.{no_fault}
+use Rattle.bit_alloc.proofs.Passing.{no_fault}
 use Rattle.block_map.proofs.steps.rewrite.Goals as goal
 
 pub returns-in-Some-clause-written : goal.returns-in-Some-clause-written

@@ -8,7 +8,7 @@ use Rattle.block_map.specs.Steps.{MayChange}
 use Rattle.block_map.proofs.Numbers.{number_within}
 use Rattle.block_map.proofs.Overwriting.{used_may_change, loaded_number, over_changes, over_holds, over_whole}
 use Rattle.block_map.proofs.Wrote.{block_whole, may_within}
-use Rattle.block_map.proofs.Runs.{fault_on, no_fault}
+use Rattle.bit_alloc.proofs.Passing.{fault_on, no_fault}
 use Rattle.sector_txn.proofs.TransactionRuns.{store_joined}
 use Rattle.block_map.proofs.write.overwrite.Goals as goal
 

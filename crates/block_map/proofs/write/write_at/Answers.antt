@@ -9,7 +9,8 @@ use Rattle.block_map.specs.Steps.{MayChange, taken_by, put_by}
 use Rattle.block_map.proofs.Alterings.{may_after}
 use Rattle.block_map.proofs.Sizing.{may_change, sized, size_limit}
 use Rattle.block_map.proofs.Rooms.{spare_last}
-use Rattle.block_map.proofs.Runs.{same_fault, other_fault_on, no_fault_of}
+use Rattle.bit_alloc.proofs.Passing.{other_fault_on, no_fault_of}
+use Rattle.block_map.proofs.Runs.{same_fault}
 use Rattle.block_map.proofs.Wrote.{limit_at, taken_few, taken_most, taken_same, wrote, wrote_held, wrote_whole}
 use Rattle.std.specs.Prelude.{max}
 use Rattle.block_map.specs.Contents.{AllowsSize}

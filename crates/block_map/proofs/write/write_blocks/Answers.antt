@@ -6,7 +6,8 @@ use Rattle.block_map.specs.Steps.{WritesRun, HasRoomFor, pointers_of, pointers_t
 use Rattle.block_map.proofs.Alterings.{may_after}
 use Rattle.block_map.proofs.Loops.{IsWritten, none_written, written_then, more_written, run_of, run_more, all_written, block_lacks, run_lacks, room_for_blocks, pointers_lack}
 use Rattle.block_map.proofs.Numbers.{loaded_unchanged}
-use Rattle.block_map.proofs.Runs.{same_fault, cause_on, other_fault_on}
+use Rattle.bit_alloc.proofs.Passing.{cause_on, other_fault_on}
+use Rattle.block_map.proofs.Runs.{same_fault}
 use Rattle.block_map.proofs.Wrote.{may_within}
 use Rattle.block_map.proofs.write.write_blocks.Goals as goal
 

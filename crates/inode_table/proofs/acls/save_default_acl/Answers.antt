@@ -1,4 +1,4 @@
-use Rattle.std.proofs.Common.{◌^◌, ◌<◌, ap, subst, arith, rules}
+use Rattle.std.proofs.Common.{◌^◌, ◌<◌, ap, subst, arith}
 use Rattle.std.specs.Option.{option_copied}
 use Rattle.fs_layout.specs.declared.inode.Inode.{Inode}
 use Rattle.sector_txn.proofs.TransactionRuns.{store_joined}
@@ -6,6 +6,7 @@ use Rattle.inode_table.specs.Storing.{Stores}
 use Rattle.inode_table.proofs.Bits.{with_mode_fits}
 use Rattle.inode_table.proofs.StoredAcls.{default_acl_in_data}
 use Rattle.inode_table.proofs.AclCalls.{IsDefaultSaved, default_is_saved}
+use Rattle.bit_alloc.proofs.Passing.{other_fault_on, no_fault_of}
 use Rattle.inode_table.proofs.acls.save_default_acl.Goals as goal
 
 pub store-requires-clause-owned : goal.store-requires-clause-owned
@@ -45,6 +46,22 @@ returns g c =
       access = s.access;
       default = s.default;
       used = s.saved.used;
-      full = search rules;
-      cause = search rules;
+      full = tt;
+      cause = no_fault_of s.saved.touches.puts.store;
     }
+
+pub write_inode-requires-clause-on_disk : goal.write_inode-requires-clause-on_disk
+write_inode-requires-clause-on_disk g c = c.in_ok-sector.ensures.bitmaps.disk
+
+pub write_inode-requires-clause-header : goal.write_inode-requires-clause-header
+write_inode-requires-clause-header g c = c.in_ok-sector.ensures.bitmaps.header
+
+pub write_inode-requires-clause-tables : goal.write_inode-requires-clause-tables
+write_inode-requires-clause-tables g c = c.in_ok-sector.ensures.bitmaps.tables
+
+pub returns-in_err-write_inode-clause-store : goal.returns-in_err-write_inode-clause-store
+returns-in_err-write_inode-clause-store g c = store_joined c.in_ok-sector.ensures.store c.in_err-write_inode.ensures.store
+
+pub returns-in_err-write_inode-clause-cause : goal.returns-in_err-write_inode-clause-cause
+returns-in_err-write_inode-clause-cause g c =
+    other_fault_on c.in_ok-sector.ensures.store c.in_err-write_inode.ensures.cause c.from_residual-in_err-write_inode.result c.from_residual-in_err-write_inode.ensures.0

@@ -1,10 +1,12 @@
-use Rattle.std.proofs.Common.{ap, arith, rules}
+use Rattle.std.proofs.Common.{ap, arith}
 use Rattle.fs_layout.proofs.Free.{free_fits}
 use Rattle.bit_alloc.proofs.Transactions.{bitmaps_unchanged}
 use Rattle.bit_alloc.proofs.Soundness.{spare_then}
 use Rattle.inode_table.proofs.Sound.{room_left}
 use Rattle.inode_table.proofs.StoredAcls.{acl_in_data, default_acl_in_data}
 use Rattle.inode_table.proofs.Freeing.{puts_2, puts_3, puts_4, puts_5, IsFreed, freed}
+use Rattle.bit_alloc.proofs.Passing.{fault_on, no_fault}
+use Rattle.sector_txn.proofs.TransactionRuns.{store_joined}
 use Rattle.inode_table.proofs.inodes.free_inode.Goals as goal
 
 pub give-requires-clause-bitmaps : goal.give-requires-clause-bitmaps
@@ -21,8 +23,7 @@ give_sector-requires-clause-room g c =
 
 pub give_sector-requires-2-clause-owned : goal.give_sector-requires-2-clause-owned
 give_sector-requires-2-clause-owned g c =
-    let owned = default_acl_in_data c.requires.sound c.requires.number.1 (ap (λ v. v.default_acl) c.in_ok-inode.ensures.found) in
-    search rules
+    default_acl_in_data c.requires.sound c.requires.number.1 (ap (λ v. v.default_acl) c.in_ok-inode.ensures.found)
 
 pub give_sector-requires-2-clause-room : goal.give_sector-requires-2-clause-room
 give_sector-requires-2-clause-room g c =
@@ -71,3 +72,50 @@ returns-clause-free g c = (is_freed g c).free
 
 pub returns-clause-unused : goal.returns-clause-unused
 returns-clause-unused g c = (is_freed g c).unused
+
+pub give_sector-requires-2-clause-bitmaps : goal.give_sector-requires-2-clause-bitmaps
+give_sector-requires-2-clause-bitmaps g c = c.in_ok-give_sector.ensures.bitmaps
+
+pub write_inode-requires-clause-on_disk : goal.write_inode-requires-clause-on_disk
+write_inode-requires-clause-on_disk g c = c.in_ok-give_sector-2.ensures.bitmaps.disk
+
+pub write_inode-requires-clause-header : goal.write_inode-requires-clause-header
+write_inode-requires-clause-header g c = c.in_ok-give_sector-2.ensures.bitmaps.header
+
+pub write_inode-requires-clause-tables : goal.write_inode-requires-clause-tables
+write_inode-requires-clause-tables g c = c.in_ok-give_sector-2.ensures.bitmaps.tables
+
+pub returns-in_err-give-clause-store : goal.returns-in_err-give-clause-store
+returns-in_err-give-clause-store g c = store_joined c.in_ok-inode.ensures.same.store c.in_err-give.ensures.unchanged.store
+
+pub returns-in_err-give-clause-cause : goal.returns-in_err-give-clause-cause
+returns-in_err-give-clause-cause g c =
+    fault_on c.in_ok-inode.ensures.same.store c.in_err-give.ensures.cause
+    c.from_residual-in_err-give.result c.from_residual-in_err-give.ensures
+
+pub returns-in_err-give_sector-clause-store : goal.returns-in_err-give_sector-clause-store
+returns-in_err-give_sector-clause-store g c = store_joined (puts_2 c.requires.sound c.requires.number c.in_ok-inode.ensures.same c.in_ok-give.ensures.puts).store c.in_err-give_sector.ensures.store
+
+pub returns-in_err-give_sector-clause-cause : goal.returns-in_err-give_sector-clause-cause
+returns-in_err-give_sector-clause-cause g c =
+    fault_on (puts_2 c.requires.sound c.requires.number c.in_ok-inode.ensures.same c.in_ok-give.ensures.puts).store c.in_err-give_sector.ensures.cause
+    c.from_residual-in_err-give_sector.result c.from_residual-in_err-give_sector.ensures
+
+pub returns-in_err-give_sector-2-clause-store : goal.returns-in_err-give_sector-2-clause-store
+returns-in_err-give_sector-2-clause-store g c = store_joined (puts_3 c.requires.sound c.requires.number c.in_ok-inode.ensures.same c.in_ok-give.ensures.puts c.in_ok-give_sector.ensures.puts).store c.in_err-give_sector-2.ensures.store
+
+pub returns-in_err-give_sector-2-clause-cause : goal.returns-in_err-give_sector-2-clause-cause
+returns-in_err-give_sector-2-clause-cause g c =
+    fault_on (puts_3 c.requires.sound c.requires.number c.in_ok-inode.ensures.same c.in_ok-give.ensures.puts c.in_ok-give_sector.ensures.puts).store c.in_err-give_sector-2.ensures.cause
+    c.from_residual-in_err-give_sector-2.result c.from_residual-in_err-give_sector-2.ensures
+
+pub returns-in_err-write_inode-clause-store : goal.returns-in_err-write_inode-clause-store
+returns-in_err-write_inode-clause-store g c = store_joined (puts_4 c.requires.sound c.requires.number c.in_ok-inode.ensures.same c.in_ok-give.ensures.puts c.in_ok-give_sector.ensures.puts c.in_ok-give_sector-2.ensures.puts).store c.in_err-write_inode.ensures.store
+
+pub returns-in_err-write_inode-clause-cause : goal.returns-in_err-write_inode-clause-cause
+returns-in_err-write_inode-clause-cause g c =
+    fault_on (puts_4 c.requires.sound c.requires.number c.in_ok-inode.ensures.same c.in_ok-give.ensures.puts c.in_ok-give_sector.ensures.puts c.in_ok-give_sector-2.ensures.puts).store c.in_err-write_inode.ensures.cause
+    c.from_residual-in_err-write_inode.result c.from_residual-in_err-write_inode.ensures
+
+pub returns-clause-cause : goal.returns-clause-cause
+returns-clause-cause g c = no_fault (is_freed g c).puts.store

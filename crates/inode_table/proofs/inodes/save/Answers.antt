@@ -1,6 +1,7 @@
-use Rattle.std.proofs.Common.{arith, rules}
+use Rattle.std.proofs.Common.{arith}
 use Rattle.inode_table.proofs.Sound.{room_left}
 use Rattle.inode_table.proofs.Saved.{HasSaved, has_saved}
+use Rattle.bit_alloc.proofs.Passing.{no_fault}
 use Rattle.inode_table.proofs.inodes.save.Goals as goal
 
 pub write_inode-requires-clause-room : goal.write_inode-requires-clause-room
@@ -23,5 +24,5 @@ returns g c =
       bytes = s.bytes;
       acls = s.acls;
       used = s.used;
-      cause = search rules;
+      cause = no_fault c.in_ok-write_inode.ensures.store;
     }

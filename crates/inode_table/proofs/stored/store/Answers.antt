@@ -1,8 +1,9 @@
 use Rattle.bit_alloc.specs.Room.{bitmaps}
 use Rattle.fs_layout.proofs.Bits.{has_bit}
-use Rattle.sector_txn.proofs.TransactionRuns.{changes_joined}
+use Rattle.sector_txn.proofs.TransactionRuns.{changes_joined, store_joined}
 use Rattle.bit_alloc.proofs.Soundness.{put_keeps_bitmaps}
 use Rattle.inode_table.proofs.Sound.{puts_data, puts_bitmap}
+use Rattle.bit_alloc.proofs.Passing.{no_fault_of}
 use Rattle.inode_table.proofs.stored.store.Goals as goal
 
 pub returns-then-sector-ne0-clause-puts : goal.returns-then-sector-ne0-clause-puts
@@ -20,3 +21,9 @@ returns-clause-puts g c =
 
 pub returns-clause-bitmaps : goal.returns-clause-bitmaps
 returns-clause-bitmaps g c = put_keeps_bitmaps c.in_ok-to.ensures.bitmaps c.put-2.ensures.store c.in_ok-to.ensures.taken.free.0 c.put-2.ensures.sectors
+
+pub returns-clause-store : goal.returns-clause-store
+returns-clause-store g c = store_joined c.in_ok-to.ensures.puts.store c.put-2.ensures.store
+
+pub returns-clause-cause : goal.returns-clause-cause
+returns-clause-cause g c = no_fault_of (store_joined c.in_ok-to.ensures.puts.store c.put-2.ensures.store)
