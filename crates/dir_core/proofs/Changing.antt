@@ -19,9 +19,13 @@ use Rattle.fs_layout.proofs.ReadNames.{are_names_of}
 use Rattle.fs_layout.proofs.SlotLaw.{length-slot_bytes}
 use Rattle.fs_layout.proofs.SlotNames.{length-names}
 use Rattle.fs_layout.proofs.SlotSizes.{slots_most, directory_most}
-use Rattle.sector_txn.specs.Sectors.{TxnState, IsUnchanged}
+use Rattle.sector_disk.specs.Disk.{DiskState, HasFailed}
+use Rattle.sector_disk.proofs.Moments.{failed_later}
+use Rattle.sector_txn.specs.Sectors.{TxnState, SameStore, IsUnchanged}
 use Rattle.sector_txn.proofs.TransactionRuns.{changes_nothing, changes_weaker}
+use Rattle.bit_alloc.specs.Faults.{HasCauseOf}
 use Rattle.bit_alloc.specs.Inodes.{IsSound}
+use Rattle.bit_alloc.proofs.Passing.{through_try}
 use Rattle.bit_alloc.specs.Room.{bitmaps}
 use Rattle.bit_alloc.proofs.Transactions.{map_unchanged}
 use Rattle.block_map.specs.Blocks.{IsWithin, IsReadOf}
@@ -201,6 +205,20 @@ passed_on W (Ok u) f err is full big device = cc
 passed_on W (Err e) map.Full err is full big device = subst W (sym is) (full refl)
 passed_on W (Err e) map.TooBig err is full big device = subst W (sym is) (big refl)
 passed_on W (Err e) map.DiskFault err is full big device = subst W (sym is) device
+
+-- the cause of a fault of what an inode holds
+was_of_disk : (f : MapFault) → as_dir_fault f ≡ faults.DiskFault → f ≡ map.DiskFault
+was_of_disk map.Full is = cc
+was_of_disk map.TooBig is = cc
+was_of_disk map.DiskFault is = refl
+
+pub map_cause_on : {T U : Type 0} {f : MapFault} {old mid : TxnState} {new : DiskState} → SameStore old mid → HasCauseOf {T = T} map.DiskFault mid.disk new (Err f)
+    → (r : Result U DirFault) → IsErr r × IsErrAnd r (λ e. e ≡ as_dir_fault f) → HasCauseOf faults.DiskFault old.disk new r
+map_cause_on {f = f} {old} {mid} {new} first cause r passed = record {
+  later = let a = first.reads.failures in let b = cause.later in omega (arith, a, b);
+  failed = through_try (λ e. e ≡ faults.DiskFault → HasFailed old.disk new) r (as_dir_fault f) passed
+      (λ is. failed_later old.disk mid.disk new first.reads.failures (cause.failed (was_of_disk f is)));
+}
 
 pub ok_is_no_fault : {f : MapFault} {u : Unit {0}} → Ok u ≡ Err f → ⊥
 ok_is_no_fault e = cc

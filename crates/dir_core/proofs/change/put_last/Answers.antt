@@ -9,6 +9,7 @@ use Rattle.block_map.proofs.Joins.{sound_after_reads, content_after_reads}
 use Rattle.dir_core.proofs.Changing.{slots_after_reads, directory_within, slot_below, slot_inside, slot_has_block, slot_placed, slot_written, last_read}
 use Rattle.dir_core.proofs.SlotPlaces.{as_many}
 use Rattle.dir_core.proofs.Taking.{size_of_slots}
+use Rattle.bit_alloc.proofs.Passing.{fault_on, no_fault}
 use Rattle.dir_core.proofs.change.put_last.Goals as goal
 
 pub overflow_mul-at : goal.overflow_mul-at
@@ -67,3 +68,12 @@ returns-clause-whole g c = c.in_ok-overwrite.ensures.whole (slots_after_reads c.
 
 pub returns-clause-store : goal.returns-clause-store
 returns-clause-store g c = store_joined c.in_ok-read_at.ensures.same.store c.in_ok-overwrite.ensures.store
+
+pub returns-in_err-overwrite-clause-store : goal.returns-in_err-overwrite-clause-store
+returns-in_err-overwrite-clause-store g c = store_joined c.in_ok-read_at.ensures.same.store c.in_err-overwrite.ensures.store
+
+pub returns-in_err-overwrite-clause-cause : goal.returns-in_err-overwrite-clause-cause
+returns-in_err-overwrite-clause-cause g c = fault_on c.in_ok-read_at.ensures.same.store c.in_err-overwrite.ensures.cause c.from_residual-in_err-overwrite.result c.from_residual-in_err-overwrite.ensures
+
+pub returns-clause-cause : goal.returns-clause-cause
+returns-clause-cause g c = no_fault (store_joined c.in_ok-read_at.ensures.same.store c.in_ok-overwrite.ensures.store)

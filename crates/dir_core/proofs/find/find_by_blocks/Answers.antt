@@ -8,6 +8,7 @@ use Rattle.dir_core.proofs.Found.{absent_in_block, found_in_block}
 use Rattle.dir_core.proofs.Pieces.{slots_are}
 use Rattle.dir_core.proofs.SlotPlaces.{blocks_reach}
 use Rattle.dir_core.proofs.Scans.{within_later, block_before}
+use Rattle.bit_alloc.proofs.Passing.{fault_on, no_fault}
 use Rattle.dir_core.proofs.find.find_by_blocks.Goals as goal
 
 pub read_with-requires-clause-within : goal.read_with-requires-clause-within
@@ -54,3 +55,18 @@ returns-clause-found g c = λ slots h n d lt.
     ∙ ap (λ (b : ℕ). div_ceil (length slots) b) c.block_slots-block_slots.ensures in
     let all = blocks_reach c.args.version c.loop-k.k (length slots) (subst (λ (m : ℕ). m ≤ c.loop-k.k) ends c.loop-k-test.false) in
     c.loop-k.invariant.absent slots h n d (omega (arith, lt, all)) lt
+
+pub returns-in_err-found-clause-same : goal.returns-in_err-found-clause-same
+returns-in_err-found-clause-same g c = unchanged_joined c.loop-k.invariant.same c.in_err-found.ensures.same
+
+pub returns-in_err-found-clause-cause : goal.returns-in_err-found-clause-cause
+returns-in_err-found-clause-cause g c = fault_on c.loop-k.invariant.same.store c.in_err-found.ensures.cause c.from_residual.result c.from_residual.ensures
+
+pub returns-in-Some-clause-cause : goal.returns-in-Some-clause-cause
+returns-in-Some-clause-cause g c = no_fault (unchanged_joined c.loop-k.invariant.same c.in_ok-found.ensures.same).store
+
+pub returns-clause-same : goal.returns-clause-same
+returns-clause-same g c = c.loop-k.invariant.same
+
+pub returns-clause-cause : goal.returns-clause-cause
+returns-clause-cause g c = no_fault c.loop-k.invariant.same.store

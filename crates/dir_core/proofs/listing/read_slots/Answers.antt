@@ -1,4 +1,4 @@
-use Rattle.std.proofs.Common.{◌≡◌, ℕ, List, ◌+◌, ◌*◌, ◌/◌, ◌%◌, ◌<◌, [], ◌∷◌, ◌++◌, length, get_or, take, ap, sym, subst, ◌∙◌, arith, rules}
+use Rattle.std.proofs.Common.{◌≡◌, ℕ, List, ◌+◌, ◌*◌, ◌/◌, ◌%◌, ◌<◌, [], ◌∷◌, ◌++◌, length, get_or, take, refl, ap, sym, subst, ◌∙◌, arith, rules, inl}
 use Rattle.std.proofs.lemmas.List.{take_all, take_more}
 use Rattle.fs_layout.specs.declared.version.Version.{Version}
 use Rattle.fs_layout.specs.Version.{slot_size, block_slots}
@@ -10,6 +10,7 @@ use Rattle.dir_core.specs.Slots.{IsSlotAt}
 use Rattle.dir_core.proofs.SlotPlaces.{first_of_block}
 use Rattle.dir_core.proofs.Pieces.{slot_there, slots_are}
 use Rattle.dir_core.proofs.Scans.{within_later, block_later, block_before, block_stays}
+use Rattle.bit_alloc.proofs.Passing.{through_try, other_fault_on, no_fault_of, not_of_disk}
 use Rattle.dir_core.proofs.listing.read_slots.Goals as goal
 
 pub read_block_of-requires-clause-within : goal.read_block_of-requires-clause-within
@@ -87,3 +88,21 @@ pub returns-clause-found : goal.returns-clause-found
 returns-clause-found g c = λ slots h.
     let count = ap (λ (w : ℕ). c.args.inode.now.size / w) c.slot_size-slot_size.ensures ∙ slots_are h in
     c.loop-k.invariant.read slots h ∙ take_all c.loop-k.k slots (omega (arith, c.loop-k-test.false, count))
+
+pub returns-in_err-read_block_of-clause-same : goal.returns-in_err-read_block_of-clause-same
+returns-in_err-read_block_of-clause-same g c = unchanged_joined c.loop-k.invariant.same c.in_err-read_block_of.ensures.same
+
+pub returns-in_err-read_block_of-clause-faults : goal.returns-in_err-read_block_of-clause-faults
+returns-in_err-read_block_of-clause-faults g c = through_try _ c.from_residual.result _ c.from_residual.ensures (inl refl)
+
+pub returns-in_err-read_block_of-clause-cause : goal.returns-in_err-read_block_of-clause-cause
+returns-in_err-read_block_of-clause-cause g c = other_fault_on c.loop-k.invariant.same.store c.in_err-read_block_of.ensures.cause c.from_residual.result c.from_residual.ensures.0
+
+pub returns-in_default-push-clause-cause : goal.returns-in_default-push-clause-cause
+returns-in_default-push-clause-cause g c = not_of_disk (unchanged_joined c.loop-k.invariant.same c.in_ok-read_block_of.ensures.same).store (λ e. cc)
+
+pub returns-clause-same : goal.returns-clause-same
+returns-clause-same g c = c.loop-k.invariant.same
+
+pub returns-clause-cause : goal.returns-clause-cause
+returns-clause-cause g c = no_fault_of c.loop-k.invariant.same.store
