@@ -13,10 +13,10 @@ through_try Q (Err y) x e q = subst Q (sym e.1) q
 
 -- the cause of a fault of a later call is its cause where it is passed on
 pub cause_on : {T U E : Type 0} {fault e : E} {old mid : TxnState} {new : DiskState} → SameStore old mid → HasCauseOf {T = T} fault mid.disk new (Err e)
-    → (r : Result U E) → IsErr r → IsErrAnd r (λ y. y ≡ e) → HasCauseOf fault old.disk new r
-cause_on {fault = fault} {e} {old} {mid} {new} first cause r err and = record {
+    → (r : Result U E) → IsErr r × IsErrAnd r (λ y. y ≡ e) → HasCauseOf fault old.disk new r
+cause_on {fault = fault} {e} {old} {mid} {new} first cause r passed = record {
   later = let a = first.reads.failures in let b = cause.later in omega (arith, a, b);
-  failed = through_try (λ y. y ≡ fault → HasFailed old.disk new) r e (err, and) (λ is. failed_later old.disk mid.disk new first.reads.failures (cause.failed is));
+  failed = through_try (λ y. y ≡ fault → HasFailed old.disk new) r e passed (λ is. failed_later old.disk mid.disk new first.reads.failures (cause.failed is));
 }
 
 -- ---- what a call tells of the disk

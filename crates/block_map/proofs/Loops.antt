@@ -11,7 +11,7 @@ use Rattle.fs_layout.specs.Bytes.{SectorMap, splice}
 use Rattle.fs_layout.specs.Images.{holder, number_on, pointer, Holds, free_sectors}
 use Rattle.fs_layout.specs.InodeChanges.{ChangesBlocks}
 use Rattle.fs_layout.proofs.Writes.{splice_next, nothing_put}
-use Rattle.sector_txn.specs.Sectors.{TxnState, IsUnchanged, PutsOnly, lacking}
+use Rattle.sector_txn.specs.Sectors.{TxnState, SameStore, IsUnchanged, PutsOnly, lacking}
 use Rattle.sector_txn.proofs.TransactionRuns.{changes_nothing, changes_joined, changes_read, store_joined}
 use Rattle.bit_alloc.specs.Inodes.{KeepsAcls}
 use Rattle.bit_alloc.specs.Room.{bitmaps, HasSpare}
@@ -55,6 +55,11 @@ none_written {p} {offset} {first} {x} {txn} {v} ns may before =
       others = λ j out. refl;
       free = omega arith;
     }
+
+-- the store below stays, where sectors of pointers were added before and some are read behind it
+pub store_so_far : {p : Geometry} {ns : List ℕ} {offset first k : ℕ} {x : List ℕ} {start old mid now : TxnState} {u v : Inode} → SameStore start old
+    → IsWritten p ns offset first k x old mid u v → IsUnchanged mid now → SameStore start now
+store_so_far added so_far same = store_joined (store_joined added so_far.puts.store) same.store
 
 -- reads change nothing of it
 pub written_then : {p : Geometry} {ns : List ℕ} {offset first k : ℕ} {x : List ℕ} {old mid now : TxnState} {u v w : Inode} → IsWritten p ns offset first k x old mid u v → IsUnchanged mid now → w ≡ v

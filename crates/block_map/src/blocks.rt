@@ -148,6 +148,23 @@ impl Blocks {
         self.inode.number(0, &self.pointers, k)
     }
 
+    // The sector of block `k`, 0 for a hole. The sector of pointers that has its number is at hand then.
+    //
+    // At `Err` nothing is said of what is at hand.
+    fn find<S: Sectors>(&mut self, s: &mut S, k: u64) -> Result<u32, DiskFault>
+        requires within { IsWithin (S.state s.old).header (S.state s.old).disk.size (S.state s.old).sectors self.old.inode }
+        requires at_hand { IsAtHand (S.state s.old).sectors self.old }
+        ensures inode { self.new.inode ≡ self.old.inode }
+        ensures at_hand { OnOk result (IsAtHand (S.state s.old).sectors self.new) }
+        ensures number { IfOk result (λ n. n ≡ pointer (S.state s.old).sectors self.old.inode k) }
+        ensures inside { IfOk result (λ n. n ≢ 0 → (log_end (S.state s.new).header ≤ n) × (n < (S.state s.new).disk.size)) }
+        ensures same { IsUnchanged (S.state s.old) (S.state s.new) }
+        ensures cause { HasCause (S.state s.old).disk (S.state s.new).disk result }
+    {
+        self.load(s, k)?;
+        Ok(self.number(k))
+    }
+
     /// A sector of pointers was taken, which is number `i` of a level: one to blocks is at hand then, as zeros.
     pub(crate) fn was_taken(&mut self, level: usize, i: u64, number: u32)
         ensures { IsTaken level i number self.old self.new }
@@ -177,8 +194,7 @@ impl Blocks {
         ensures same { IsUnchanged (S.state s.old) (S.state s.new) }
         ensures cause { HasCause (S.state s.old).disk (S.state s.new).disk result }
     {
-        self.load(s, k)?;
-        let number = self.number(k);
+        let number = self.find(s, k)?;
         if number == 0 {
             to.fill(0);
             return Ok(());
@@ -205,8 +221,7 @@ impl Blocks {
         ensures same { IsUnchanged (S.state s.old) (S.state s.new) }
         ensures cause { HasCause (S.state s.old).disk (S.state s.new).disk result }
     {
-        self.load(s, k)?;
-        let number = self.number(k);
+        let number = self.find(s, k)?;
         if number == 0 {
             return Ok(read(&[0; BLOCK]));
         }

@@ -45,8 +45,7 @@ returns-in_err-at-clause-store g c = store_joined c.loop-at.invariant.puts.store
 
 pub returns-in_err-at-clause-cause : goal.returns-in_err-at-clause-cause
 returns-in_err-at-clause-cause g c =
-    let e = c.from_residual.ensures in
-    cause_on c.loop-at.invariant.puts.store c.in_err-at.ensures.cause c.from_residual.result e.0 e.1
+    cause_on c.loop-at.invariant.puts.store c.in_err-at.ensures.cause c.from_residual.result c.from_residual.ensures
 
 pub returns-clause-store : goal.returns-clause-store
 returns-clause-store g c = c.loop-at.invariant.puts.store

@@ -41,21 +41,6 @@ give_sector-requires-2-clause-room g c =
     (access_puts c.requires.sound c.requires.number c.in_ok-inode.ensures.found c.in_ok-inode.ensures.same c.in_ok-give.ensures.given c.in_ok-give.ensures.puts
     c.in_ok-give_from.ensures.given c.in_ok-give_sector.ensures.puts)
 
-pub give_sector-requires-clause-bitmaps : goal.give_sector-requires-clause-bitmaps
-give_sector-requires-clause-bitmaps g c = c.in_ok-give_from.ensures.given.tables
-
-pub give_sector-requires-2-clause-bitmaps : goal.give_sector-requires-2-clause-bitmaps
-give_sector-requires-2-clause-bitmaps g c = c.in_ok-give_sector.ensures.bitmaps
-
-pub write_inode-requires-clause-on_disk : goal.write_inode-requires-clause-on_disk
-write_inode-requires-clause-on_disk g c = c.in_ok-give_sector-2.ensures.bitmaps.disk
-
-pub write_inode-requires-clause-header : goal.write_inode-requires-clause-header
-write_inode-requires-clause-header g c = c.in_ok-give_sector-2.ensures.bitmaps.header
-
-pub write_inode-requires-clause-tables : goal.write_inode-requires-clause-tables
-write_inode-requires-clause-tables g c = c.in_ok-give_sector-2.ensures.bitmaps.tables
-
 pub returns-in_err-give-clause-store : goal.returns-in_err-give-clause-store
 returns-in_err-give-clause-store g c = store_joined c.in_ok-inode.ensures.same.store c.in_err-give.ensures.unchanged.store
 

@@ -54,17 +54,7 @@ returns-in_err-link-clause-store g c = store_joined c.in_ok-ino.ensures.puts.sto
 
 pub returns-in_err-link-clause-cause : goal.returns-in_err-link-clause-cause
 returns-in_err-link-clause-cause g c =
-    let e = c.from_residual-in_err-link.ensures in
-    cause_on c.in_ok-ino.ensures.puts.store c.in_err-link.ensures.cause c.from_residual-in_err-link.result e.0 e.1
-
-pub write_inode-requires-clause-on_disk : goal.write_inode-requires-clause-on_disk
-write_inode-requires-clause-on_disk g c = c.in_ok-link.ensures.taken.tables.disk
-
-pub write_inode-requires-clause-header : goal.write_inode-requires-clause-header
-write_inode-requires-clause-header g c = c.in_ok-link.ensures.taken.tables.header
-
-pub write_inode-requires-clause-tables : goal.write_inode-requires-clause-tables
-write_inode-requires-clause-tables g c = c.in_ok-link.ensures.taken.tables.tables
+    cause_on c.in_ok-ino.ensures.puts.store c.in_err-link.ensures.cause c.from_residual-in_err-link.result c.from_residual-in_err-link.ensures
 
 pub returns-in_err-write_inode-clause-store : goal.returns-in_err-write_inode-clause-store
 returns-in_err-write_inode-clause-store g c = store_joined (store_joined c.in_ok-ino.ensures.puts.store c.in_ok-link.ensures.taken.puts.store) c.in_err-write_inode.ensures.store

@@ -136,9 +136,8 @@ returns-in_err-add_sector-clause-store g t c =
 
 pub returns-in_err-add_sector-clause-cause : goal.returns-in_err-add_sector-clause-cause
 returns-in_err-add_sector-clause-cause g t c =
-    let e = c.from_residual-in_err-add_sector.ensures in
     cause_on (store_joined c.in_ok-add_numbers.ensures.store c.loop-i.invariant.added.puts.store) c.in_err-add_sector.ensures.cause
-    c.from_residual-in_err-add_sector.result e.0 e.1
+    c.from_residual-in_err-add_sector.result c.from_residual-in_err-add_sector.ensures
 
 pub returns-clause-added : goal.returns-clause-added
 returns-clause-added g t c =

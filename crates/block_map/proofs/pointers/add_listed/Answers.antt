@@ -94,8 +94,7 @@ returns-in_err-list_sector-clause-store g c = store_joined c.in_ok-above.ensures
 
 pub returns-in_err-list_sector-clause-cause : goal.returns-in_err-list_sector-clause-cause
 returns-in_err-list_sector-clause-cause g c =
-    let e = c.from_residual-in_err-list_sector.ensures in
-    cause_on c.in_ok-above.ensures.same.store c.in_err-list_sector.ensures.cause c.from_residual-in_err-list_sector.result e.0 e.1
+    cause_on c.in_ok-above.ensures.same.store c.in_err-list_sector.ensures.cause c.from_residual-in_err-list_sector.result c.from_residual-in_err-list_sector.ensures
 
 pub returns-then-number-ne0-clause-cause : goal.returns-then-number-ne0-clause-cause
 returns-then-number-ne0-clause-cause g c = no_fault_of c.in_ok-above.ensures.same.store

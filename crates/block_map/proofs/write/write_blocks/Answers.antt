@@ -4,7 +4,7 @@ use Rattle.sector_txn.proofs.TransactionRuns.{store_joined}
 use Rattle.block_map.specs.declared.fault.MapFault.TheVariants.{Full}
 use Rattle.block_map.specs.Steps.{WritesRun, HasRoomFor, pointers_of, pointers_to}
 use Rattle.block_map.proofs.Alterings.{may_after}
-use Rattle.block_map.proofs.Loops.{IsWritten, none_written, written_then, more_written, run_of, run_more, all_written, block_lacks, run_lacks, room_for_blocks, pointers_lack}
+use Rattle.block_map.proofs.Loops.{store_so_far, IsWritten, none_written, written_then, more_written, run_of, run_more, all_written, block_lacks, run_lacks, room_for_blocks, pointers_lack}
 use Rattle.block_map.proofs.Numbers.{loaded_unchanged}
 use Rattle.bit_alloc.proofs.Passing.{cause_on, other_fault_on}
 use Rattle.block_map.proofs.Runs.{same_fault}
@@ -94,15 +94,10 @@ returns-in_err-write_run-clause-full g c = λ full.
     (c.run_of_holes-run.ensures.holes (g.S.Sectors.state c.load.new.s).sectors (loaded_unchanged c.in_ok-load.ensures.same c.in_ok-load.ensures.loaded)) (omega (arith, f, is.count))
 
 pub returns-in_err-write_run-clause-store : goal.returns-in_err-write_run-clause-store
-returns-in_err-write_run-clause-store g c =
-    let so_far = written_then c.loop-k.invariant.written c.in_ok-load.ensures.same c.in_ok-load.ensures.inode in
-    store_joined (store_joined c.in_ok-add_pointers.ensures.store so_far.puts.store) c.in_err-write_run.ensures.store
+returns-in_err-write_run-clause-store g c = store_joined (store_so_far c.in_ok-add_pointers.ensures.store c.loop-k.invariant.written c.in_ok-load.ensures.same) c.in_err-write_run.ensures.store
 
 pub returns-in_err-write_run-clause-cause : goal.returns-in_err-write_run-clause-cause
-returns-in_err-write_run-clause-cause g c =
-    let e = c.from_residual-in_err-write_run.ensures in
-    let so_far = written_then c.loop-k.invariant.written c.in_ok-load.ensures.same c.in_ok-load.ensures.inode in
-    cause_on (store_joined c.in_ok-add_pointers.ensures.store so_far.puts.store) c.in_err-write_run.ensures.cause c.from_residual-in_err-write_run.result e.0 e.1
+returns-in_err-write_run-clause-cause g c = cause_on (store_so_far c.in_ok-add_pointers.ensures.store c.loop-k.invariant.written c.in_ok-load.ensures.same) c.in_err-write_run.ensures.cause c.from_residual-in_err-write_run.result c.from_residual-in_err-write_run.ensures
 
 pub loop-k-preserved-then-run-gt0 : goal.loop-k-preserved-then-run-gt0
 loop-k-preserved-then-run-gt0 g c =
@@ -151,15 +146,10 @@ returns-in_err-write_loaded-clause-full g c = λ is.
     block_lacks c.args.offset c.args.bytes.now c.in_ok-add_pointers.ensures.added (omega (arith, c.div_ceil-end.ensures)) (written_then c.loop-k.invariant.written c.in_ok-load.ensures.same c.in_ok-load.ensures.inode) c.loop-k.invariant.from c.loop-k-test.true f.0 f.1
 
 pub returns-in_err-write_loaded-clause-store : goal.returns-in_err-write_loaded-clause-store
-returns-in_err-write_loaded-clause-store g c =
-    let so_far = written_then c.loop-k.invariant.written c.in_ok-load.ensures.same c.in_ok-load.ensures.inode in
-    store_joined (store_joined c.in_ok-add_pointers.ensures.store so_far.puts.store) c.in_err-write_loaded.ensures.store
+returns-in_err-write_loaded-clause-store g c = store_joined (store_so_far c.in_ok-add_pointers.ensures.store c.loop-k.invariant.written c.in_ok-load.ensures.same) c.in_err-write_loaded.ensures.store
 
 pub returns-in_err-write_loaded-clause-cause : goal.returns-in_err-write_loaded-clause-cause
-returns-in_err-write_loaded-clause-cause g c =
-    let e = c.from_residual-in_err-write_loaded.ensures in
-    let so_far = written_then c.loop-k.invariant.written c.in_ok-load.ensures.same c.in_ok-load.ensures.inode in
-    cause_on (store_joined c.in_ok-add_pointers.ensures.store so_far.puts.store) c.in_err-write_loaded.ensures.cause c.from_residual-in_err-write_loaded.result e.0 e.1
+returns-in_err-write_loaded-clause-cause g c = cause_on (store_so_far c.in_ok-add_pointers.ensures.store c.loop-k.invariant.written c.in_ok-load.ensures.same) c.in_err-write_loaded.ensures.cause c.from_residual-in_err-write_loaded.result c.from_residual-in_err-write_loaded.ensures
 
 pub loop-k-preserved : goal.loop-k-preserved
 loop-k-preserved g c =

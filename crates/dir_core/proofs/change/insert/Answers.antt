@@ -4,12 +4,12 @@ use Rattle.std.proofs.lemmas.Result.{err_from_is_err_and}
 use Rattle.dir_core.specs.declared.fault.DirFault.{DirFault}
 use Rattle.fs_layout.specs.Bytes.{SectorMap}
 use Rattle.fs_layout.specs.Directories.{HasNames}
-use Rattle.sector_txn.proofs.TransactionRuns.{store_joined, store_same}
+use Rattle.sector_txn.proofs.TransactionRuns.{store_joined}
 use Rattle.bit_alloc.proofs.Transactions.{map_unchanged}
 use Rattle.block_map.proofs.Joins.{sound_after_reads, content_after_reads}
 use Rattle.dir_core.specs.Faults.{WhyNotAdded}
 use Rattle.dir_core.proofs.Changing.{slots_there, directory_within, found_there, not_there, said_by_names, said_by_slots}
-use Rattle.bit_alloc.proofs.Passing.{through_try, cause_on, other_fault_on, not_of_disk, no_fault_of}
+use Rattle.bit_alloc.proofs.Passing.{cause_on, not_of_disk, no_fault_of}
 use Rattle.dir_core.proofs.change.insert.Goals as goal
 
 pub find_slot-requires-clause-within : goal.find_slot-requires-clause-within
@@ -57,12 +57,6 @@ returns-clause-names g c = λ names h.
 pub returns-clause-store : goal.returns-clause-store
 returns-clause-store g c = store_joined c.in_ok-find_slot.ensures.same.store c.in_ok-insert_new.ensures.store
 
-pub returns-in_err-find_slot-clause-why : goal.returns-in_err-find_slot-clause-why
-returns-in_err-find_slot-clause-why g c = through_try _ c.from_residual.result _ c.from_residual.ensures (λ names h. tt)
-
-pub returns-in_err-find_slot-clause-cause : goal.returns-in_err-find_slot-clause-cause
-returns-in_err-find_slot-clause-cause g c = other_fault_on {old = g.S.Sectors.state c.args.s.now} store_same c.in_err-find_slot.ensures.cause c.from_residual.result c.from_residual.ensures.0
-
 pub returns-then-is_some-clause-cause : goal.returns-then-is_some-clause-cause
 returns-then-is_some-clause-cause g c = not_of_disk c.in_ok-find_slot.ensures.same.store (λ e. cc)
 
@@ -71,8 +65,7 @@ returns-in_err-insert_new-clause-store g c = store_joined c.in_ok-find_slot.ensu
 
 pub returns-in_err-insert_new-clause-cause : goal.returns-in_err-insert_new-clause-cause
 returns-in_err-insert_new-clause-cause g c =
-    let e = c.from_residual-in_err-insert_new.ensures in
-    cause_on c.in_ok-find_slot.ensures.same.store c.in_err-insert_new.ensures.cause c.from_residual-in_err-insert_new.result e.0 e.1
+    cause_on c.in_ok-find_slot.ensures.same.store c.in_err-insert_new.ensures.cause c.from_residual-in_err-insert_new.result c.from_residual-in_err-insert_new.ensures
 
 pub returns-clause-cause : goal.returns-clause-cause
 returns-clause-cause g c = no_fault_of (returns-clause-store g c)

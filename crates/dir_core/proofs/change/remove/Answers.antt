@@ -4,7 +4,7 @@ use Rattle.fs_layout.specs.Images.{Holds}
 use Rattle.fs_layout.specs.Bytes.{resized}
 use Rattle.fs_layout.specs.Directories.{NamedInode, HasNames, slots_bytes}
 use Rattle.fs_layout.proofs.SlotSizes.{directory_most}
-use Rattle.sector_txn.proofs.TransactionRuns.{store_joined, store_same}
+use Rattle.sector_txn.proofs.TransactionRuns.{store_joined}
 use Rattle.bit_alloc.proofs.Soundness.{spare_then}
 use Rattle.bit_alloc.proofs.Transactions.{spare_unchanged}
 use Rattle.block_map.proofs.Wrote.{put_to_fewer}
@@ -14,7 +14,7 @@ use Rattle.dir_core.proofs.Changing.{allows, slots_there, slots_after_reads, dir
 use Rattle.dir_core.proofs.SlotPlaces.{one_less, slots_even}
 use Rattle.dir_core.proofs.Taking.{size_of_slots}
 use Rattle.fs_layout.proofs.Versions.{file_bounds}
-use Rattle.bit_alloc.proofs.Passing.{through_try, cause_on, other_fault_on, no_fault_of}
+use Rattle.bit_alloc.proofs.Passing.{other_fault_on, no_fault_of}
 use Rattle.dir_core.proofs.change.remove.Goals as goal
 
 pub named_slot-requires-clause-within : goal.named_slot-requires-clause-within
@@ -96,19 +96,8 @@ returns-clause-names g c = λ names h.
 pub returns-clause-store : goal.returns-clause-store
 returns-clause-store g c = store_joined (store_joined c.in_ok-found.ensures.same.store c.in_ok-move_last.ensures.store) c.in_ok-set_size.ensures.store
 
-pub returns-in_err-found-clause-why : goal.returns-in_err-found-clause-why
-returns-in_err-found-clause-why g c = through_try _ c.from_residual.result c.in_err-found.field-0.0 c.from_residual.ensures c.in_err-found.ensures.why
-
-pub returns-in_err-found-clause-cause : goal.returns-in_err-found-clause-cause
-returns-in_err-found-clause-cause g c =
-    let e = c.from_residual.ensures in
-    cause_on {old = g.S.Sectors.state c.args.s.now} store_same c.in_err-found.ensures.cause c.from_residual.result e.0 e.1
-
 pub returns-in_err-move_last-clause-store : goal.returns-in_err-move_last-clause-store
 returns-in_err-move_last-clause-store g c = store_joined c.in_ok-found.ensures.same.store c.in_err-move_last.ensures.store
-
-pub returns-in_err-move_last-clause-why : goal.returns-in_err-move_last-clause-why
-returns-in_err-move_last-clause-why g c = through_try _ c.from_residual-in_err-move_last.result _ c.from_residual-in_err-move_last.ensures (λ names h. tt)
 
 pub returns-in_err-move_last-clause-cause : goal.returns-in_err-move_last-clause-cause
 returns-in_err-move_last-clause-cause g c = other_fault_on c.in_ok-found.ensures.same.store c.in_err-move_last.ensures.cause c.from_residual-in_err-move_last.result c.from_residual-in_err-move_last.ensures.0

@@ -2,10 +2,10 @@ use Rattle.std.proofs.Common.{◌≡◌, ℕ, List, None, Some, refl, ap, subst,
 use Rattle.fs_layout.specs.Maps.{name_cmp, get, with_entry, without}
 use Rattle.fs_layout.specs.Directories.{NamedInode, HasNames}
 use Rattle.fs_layout.proofs.OneSlots.{names_same}
-use Rattle.sector_txn.proofs.TransactionRuns.{store_joined, store_same}
+use Rattle.sector_txn.proofs.TransactionRuns.{store_joined}
 use Rattle.block_map.proofs.Joins.{sound_after_reads, content_after_reads}
 use Rattle.dir_core.proofs.Changing.{slots_there, slots_after_reads, directory_within, found_there, said_by_slots, added, leads_to_found, apart_renamed, names_renamed}
-use Rattle.bit_alloc.proofs.Passing.{through_try, cause_on, other_fault_on, no_fault_of}
+use Rattle.bit_alloc.proofs.Passing.{other_fault_on, no_fault_of}
 use Rattle.dir_core.proofs.change.rename.Goals as goal
 
 pub named_slot-requires-clause-within : goal.named_slot-requires-clause-within
@@ -43,19 +43,8 @@ returns-clause-names g c = λ names to h leads.
 pub returns-clause-store : goal.returns-clause-store
 returns-clause-store g c = store_joined c.in_ok-found.ensures.same.store c.in_ok-set_slot.ensures.store
 
-pub returns-in_err-found-clause-why : goal.returns-in_err-found-clause-why
-returns-in_err-found-clause-why g c = through_try _ c.from_residual.result c.in_err-found.field-0.0 c.from_residual.ensures c.in_err-found.ensures.why
-
-pub returns-in_err-found-clause-cause : goal.returns-in_err-found-clause-cause
-returns-in_err-found-clause-cause g c =
-    let e = c.from_residual.ensures in
-    cause_on {old = g.S.Sectors.state c.args.s.now} store_same c.in_err-found.ensures.cause c.from_residual.result e.0 e.1
-
 pub returns-in_err-set_slot-clause-store : goal.returns-in_err-set_slot-clause-store
 returns-in_err-set_slot-clause-store g c = store_joined c.in_ok-found.ensures.same.store c.in_err-set_slot.ensures.store
-
-pub returns-in_err-set_slot-clause-why : goal.returns-in_err-set_slot-clause-why
-returns-in_err-set_slot-clause-why g c = through_try _ c.from_residual-in_err-set_slot.result _ c.from_residual-in_err-set_slot.ensures (λ names h. tt)
 
 pub returns-in_err-set_slot-clause-cause : goal.returns-in_err-set_slot-clause-cause
 returns-in_err-set_slot-clause-cause g c = other_fault_on c.in_ok-found.ensures.same.store c.in_err-set_slot.ensures.cause c.from_residual-in_err-set_slot.result c.from_residual-in_err-set_slot.ensures.0

@@ -55,15 +55,6 @@ returns g c =
       cause = no_fault_of s.saved.touches.puts.store;
     }
 
-pub write_inode-requires-clause-on_disk : goal.write_inode-requires-clause-on_disk
-write_inode-requires-clause-on_disk g c = c.in_ok-sector.ensures.bitmaps.disk
-
-pub write_inode-requires-clause-header : goal.write_inode-requires-clause-header
-write_inode-requires-clause-header g c = c.in_ok-sector.ensures.bitmaps.header
-
-pub write_inode-requires-clause-tables : goal.write_inode-requires-clause-tables
-write_inode-requires-clause-tables g c = c.in_ok-sector.ensures.bitmaps.tables
-
 pub returns-in_err-write_inode-clause-store : goal.returns-in_err-write_inode-clause-store
 returns-in_err-write_inode-clause-store g c = store_joined c.in_ok-sector.ensures.store c.in_err-write_inode.ensures.store
 

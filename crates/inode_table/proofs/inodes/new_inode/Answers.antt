@@ -108,36 +108,19 @@ returns-clause-access g c = (is_made g c).access
 pub returns-clause-default : goal.returns-clause-default
 returns-clause-default g c = (is_made g c).default
 
-pub store-requires-clause-bitmaps : goal.store-requires-clause-bitmaps
-store-requires-clause-bitmaps g c = c.in_ok-ino.ensures.bitmaps
-
-pub store-requires-2-clause-bitmaps : goal.store-requires-2-clause-bitmaps
-store-requires-2-clause-bitmaps g c = c.in_ok-acl.ensures.bitmaps
-
-pub write_inode-requires-clause-on_disk : goal.write_inode-requires-clause-on_disk
-write_inode-requires-clause-on_disk g c = c.in_ok-default_acl.ensures.bitmaps.disk
-
-pub write_inode-requires-clause-header : goal.write_inode-requires-clause-header
-write_inode-requires-clause-header g c = c.in_ok-default_acl.ensures.bitmaps.header
-
-pub write_inode-requires-clause-tables : goal.write_inode-requires-clause-tables
-write_inode-requires-clause-tables g c = c.in_ok-default_acl.ensures.bitmaps.tables
-
 pub returns-in_err-acl-clause-store : goal.returns-in_err-acl-clause-store
 returns-in_err-acl-clause-store g c = store_joined c.in_ok-ino.ensures.puts.store c.in_err-acl.ensures.store
 
 pub returns-in_err-acl-clause-cause : goal.returns-in_err-acl-clause-cause
 returns-in_err-acl-clause-cause g c =
-    let e = c.from_residual-in_err-acl.ensures in
-    cause_on c.in_ok-ino.ensures.puts.store c.in_err-acl.ensures.cause c.from_residual-in_err-acl.result e.0 e.1
+    cause_on c.in_ok-ino.ensures.puts.store c.in_err-acl.ensures.cause c.from_residual-in_err-acl.result c.from_residual-in_err-acl.ensures
 
 pub returns-in_err-default_acl-clause-store : goal.returns-in_err-default_acl-clause-store
 returns-in_err-default_acl-clause-store g c = store_joined (store_joined c.in_ok-ino.ensures.puts.store c.in_ok-acl.ensures.puts.store) c.in_err-default_acl.ensures.store
 
 pub returns-in_err-default_acl-clause-cause : goal.returns-in_err-default_acl-clause-cause
 returns-in_err-default_acl-clause-cause g c =
-    let e = c.from_residual-in_err-default_acl.ensures in
-    cause_on (store_joined c.in_ok-ino.ensures.puts.store c.in_ok-acl.ensures.puts.store) c.in_err-default_acl.ensures.cause c.from_residual-in_err-default_acl.result e.0 e.1
+    cause_on (store_joined c.in_ok-ino.ensures.puts.store c.in_ok-acl.ensures.puts.store) c.in_err-default_acl.ensures.cause c.from_residual-in_err-default_acl.result c.from_residual-in_err-default_acl.ensures
 
 pub returns-in_err-write_inode-clause-cause : goal.returns-in_err-write_inode-clause-cause
 returns-in_err-write_inode-clause-cause g c =

@@ -1,53 +1,37 @@
-use Rattle.std.proofs.Common.{◌≡◌, ℕ, List, get_or, refl, sym, ap, ◌∙◌, arith, inr}
+use Rattle.std.proofs.Common.{◌≡◌, ℕ, List, get_or, refl, sym, ap, ◌∙◌, inr}
 use Rattle.std.proofs.lemmas.Fn.{gave_at}
-use Rattle.fs_layout.specs.Header.{log_end}
 use Rattle.fs_layout.specs.Bytes.{zeros}
 use Rattle.fs_layout.specs.Images.{pointer}
 use Rattle.fs_layout.proofs.Parts.{byte_in_is}
 use Rattle.fs_layout.proofs.SplicedBytes.{get_or-zeros}
-use Rattle.block_map.proofs.Numbers.{number_within}
-use Rattle.block_map.proofs.Overwriting.{loaded_number}
 use Rattle.block_map.proofs.Reading.{block_read}
 use Rattle.block_map.proofs.blocks.Blocks.read_with.Goals as goal
 
 pub read_with-requires-clause-part : goal.read_with-requires-clause-part
-read_with-requires-clause-part g c =
-    let is = loaded_number (g.S.Sectors.state c.args.s.now).sectors c.args.k (c.number-number.ensures (g.S.Sectors.state c.args.s.now).sectors c.in_ok-load.ensures.loaded) c.in_ok-load.ensures.inode in
-    inr (omega (arith, (number_within (g.S.Sectors.state c.args.s.now).header c.args.self.now.inode c.args.k c.requires.within is c.if-number-eq0.false).0, ap log_end c.in_ok-load.ensures.same.store.header))
+read_with-requires-clause-part g c = inr (c.in_ok-number.ensures.inside c.if-number-eq0.false).0
 
 pub read_with-requires-clause-on_disk : goal.read_with-requires-clause-on_disk
-read_with-requires-clause-on_disk g c =
-    let is = loaded_number (g.S.Sectors.state c.args.s.now).sectors c.args.k (c.number-number.ensures (g.S.Sectors.state c.args.s.now).sectors c.in_ok-load.ensures.loaded) c.in_ok-load.ensures.inode in
-    omega (arith, (number_within (g.S.Sectors.state c.args.s.now).header c.args.self.now.inode c.args.k c.requires.within is c.if-number-eq0.false).1, c.in_ok-load.ensures.same.store.reads.narrowed.size)
-
-pub returns-then-number-eq0-clause-at_hand : goal.returns-then-number-eq0-clause-at_hand
-returns-then-number-eq0-clause-at_hand g c = c.in_ok-load.ensures.loaded.at_hand
+read_with-requires-clause-on_disk g c = (c.in_ok-number.ensures.inside c.if-number-eq0.false).1
 
 pub returns-then-number-eq0-clause-made : goal.returns-then-number-eq0-clause-made
 unfolding zeros
 returns-then-number-eq0-clause-made g c =
     let image = (g.S.Sectors.state c.args.s.now).sectors in
-    let v = c.args.self.now.inode in
-    let is = loaded_number (g.S.Sectors.state c.args.s.now).sectors c.args.k (c.number-number.ensures image c.in_ok-load.ensures.loaded) c.in_ok-load.ensures.inode in
-    let hole : 0 ≡ pointer image v c.args.k = sym c.if-number-eq0.true ∙ is in
+    let hole : 0 ≡ pointer image c.args.self.now.inode c.args.k = sym c.if-number-eq0.true ∙ c.in_ok-number.ensures.number in
     record {
       block = zeros 512;
-      bytes = block_read image v (zeros 512) c.args.k 0 hole (get_or-zeros 512);
+      bytes = block_read image c.args.self.now.inode (zeros 512) c.args.k 0 hole (get_or-zeros 512);
       made = gave_at g.F.FnOnce c.read.ensures refl;
     }
-
-pub returns-clause-at_hand : goal.returns-clause-at_hand
-returns-clause-at_hand g c = c.in_ok-load.ensures.loaded.at_hand
 
 pub returns-clause-made : goal.returns-clause-made
 returns-clause-made g c =
     let image = (g.S.Sectors.state c.args.s.now).sectors in
-    let v = c.args.self.now.inode in
-    let s = c.number-number.result in
-    let is = loaded_number (g.S.Sectors.state c.args.s.now).sectors c.args.k (c.number-number.ensures image c.in_ok-load.ensures.loaded) c.in_ok-load.ensures.inode in
+    let mid = (g.S.Sectors.state c.find.new.s).sectors in
+    let s = c.in_ok-number.number in
     record {
-      block = (g.S.Sectors.state c.load.new.s).sectors s;
-      bytes = block_read image v ((g.S.Sectors.state c.load.new.s).sectors s) c.args.k s is
-          (λ i. ap (λ (l : List ℕ). get_or l i 0) (c.in_ok-load.ensures.same.sectors s) ∙ sym (byte_in_is image s i (image s) refl c.if-number-eq0.false));
+      block = mid s;
+      bytes = block_read image c.args.self.now.inode (mid s) c.args.k s c.in_ok-number.ensures.number
+          (λ i. ap (λ (l : List ℕ). get_or l i 0) (c.in_ok-number.ensures.same.sectors s) ∙ sym (byte_in_is image s i (image s) refl c.if-number-eq0.false));
       made = c.in_ok-made.ensures.content;
     }
