@@ -1,1 +1,2 @@
 pub mod Directories
+pub mod Files

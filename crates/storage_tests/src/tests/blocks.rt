@@ -1,11 +1,13 @@
 //! Calls on the bytes of one file, with what each reads and puts.
 
-ghost use Rattle.std.specs.Prelude.{◌≡◌, ◌≢◌, ◌<◌, OnOk};
+ghost use Rattle.std.specs.Prelude.{◌≡◌, ◌≢◌, ◌≤◌, ◌<◌, IfOk, OnOk};
 ghost use Rattle.fs_layout.specs.declared.inode.Kind.TheVariants.{Free};
 ghost use Rattle.fs_layout.specs.Images.{inode_at};
-ghost use Rattle.bit_alloc.specs.Inodes.{IsSound};
+ghost use Rattle.fs_layout.specs.Inode.{FitsInode};
+ghost use Rattle.bit_alloc.specs.Inodes.{IsBlank, IsSound};
 ghost use Rattle.bit_alloc.specs.Room.{HasSpare};
 ghost use Rattle.blank_map.specs.Maps.{IsWithoutInodes};
+ghost use Rattle.storage_tests.specs.Files.{IsFileRead};
 
 mod links;
 
@@ -42,6 +44,41 @@ enum Call {
 // A call, the bytes that it reads, 9 where there are none, or that it was refused, and how many sectors it reads and puts.
 type Row = (Call, [u8; 4], u32, u32);
 
+// What a new file is made with.
+pub(super) fn new_file() -> Inode
+    ensures blank { IsBlank result }
+    ensures fits { FitsInode result }
+{
+    Inode {
+        kind: Kind::File,
+        mode: 0o640,
+        names: 1,
+        ..Inode::FREE
+    }
+}
+
+// Reads a file of a map that has room for so many sectors besides the bitmaps.
+pub(super) fn load_file<S: Sectors>(
+    s: &mut S,
+    geometry: Geometry,
+    ino: u32,
+    more: usize,
+) -> Result<Inode, Fail>
+    requires sound { IsSound geometry (S.state s.old) }
+    requires below { ino < geometry.inodes }
+    requires few { more ≤ 16 }
+    ensures { IfOk result (IsFileRead geometry ino more (S.state s.old) (S.state s.new)) }
+{
+    let inode = load(s, geometry, ino)?;
+    if s.room() < (geometry.table - geometry.inode_bitmap) as usize + more {
+        return Err(Fail::new("no room"));
+    }
+    let Kind::File = inode.kind else {
+        return Err(Fail::new("no file"));
+    };
+    Ok(inode)
+}
+
 // Writes four bytes over those of one of the first 12 blocks.
 fn overwrite_direct<S: Sectors>(
     s: &mut S,
@@ -72,13 +109,7 @@ fn perform<S: Sectors>(s: &mut S, geometry: Geometry, ino: u32, call: Call) -> R
     requires below { ino < geometry.inodes }
     ensures sound { OnOk result (IsSound geometry (S.state s.new)) }
 {
-    let mut inode = load(s, geometry, ino)?;
-    if s.room() < (geometry.table - geometry.inode_bitmap) as usize + 16 {
-        return Err(Fail::new("no room"));
-    }
-    let Kind::File = inode.kind else {
-        return Err(Fail::new("no file"));
-    };
+    let mut inode = load_file(s, geometry, ino, 16)?;
     let mut bytes = [9; 4];
     match call {
         Call::Read(offset) => {
@@ -149,13 +180,7 @@ fn agreed_on_blank<S: Sectors>(
 ) -> Result<usize, Fail>
     requires { IsWithoutInodes geometry (S.state s.old.inner) }
 {
-    let inode = Inode {
-        kind: Kind::File,
-        mode: 0o640,
-        names: 1,
-        ..Inode::FREE
-    };
-    let Ok(ino) = new_inode(s, geometry, &inode, access, None) else {
+    let Ok(ino) = new_inode(s, geometry, &new_file(), access, None) else {
         return Err(Fail::new("not made"));
     };
     agreed(s, geometry, ino, rows)

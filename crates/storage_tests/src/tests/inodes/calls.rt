@@ -9,9 +9,10 @@ ghost use Rattle.bit_alloc.specs.Inodes.{IsBlank, IsSound};
 ghost use Rattle.blank_map.specs.Maps.{IsWithoutInodes};
 
 use super::{INODES, SECTORS};
+use crate::tests::blocks::{load_file, new_file};
 use crate::tests::maps::{end, map_without_inodes, parsed, superblock_of};
 use blank_map::Counted;
-use fs_layout::{Geometry, Inode, Kind, Version};
+use fs_layout::{Geometry, Inode, Version};
 use inode_table::{
     free_inode, load, load_acl, load_default_acl, new_inode, save, save_acl, save_default_acl,
     write_inode,
@@ -128,13 +129,7 @@ fn saved<S: Sectors>(
     ensures empty { OnOk result (Holds (S.state s.old.inner).sectors (inode_at geometry (S.state s.old.inner).sectors ino) []
         → Holds (S.state s.new.inner).sectors (inode_at geometry (S.state s.new.inner).sectors ino) []) }
 {
-    let inode = load(s, geometry, ino)?;
-    if s.room() < (geometry.table - geometry.inode_bitmap) as usize + 2 {
-        return Err(Fail::new("no room"));
-    }
-    let Kind::File = inode.kind else {
-        return Err(Fail::new("no file"));
-    };
+    let inode = load_file(s, geometry, ino, 2)?;
     s.gets = 0;
     s.puts = 0;
     match save_as {
@@ -195,13 +190,7 @@ fn life<S: Sectors>(
 ) -> Result<Life, Fail>
     requires { IsWithoutInodes geometry (S.state s.old.inner) }
 {
-    let inode = Inode {
-        kind: Kind::File,
-        mode: 0o640,
-        names: 1,
-        ..Inode::FREE
-    };
-    let (ino, made, same) = made(alloc, s, geometry, &inode, first.0, first.1)?;
+    let (ino, made, same) = made(alloc, s, geometry, &new_file(), first.0, first.1)?;
     let saved = saves(s, geometry, ino, then.0, then.1)?;
     if s.room() <= (geometry.table - geometry.inode_bitmap) as usize {
         return Err(Fail::new("no room"));

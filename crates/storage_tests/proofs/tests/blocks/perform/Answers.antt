@@ -1,23 +1,21 @@
-use Rattle.std.proofs.Common.{◌≤◌, ℕ, List, length, take, ap, subst, ◌∙◌, arith}
+use Rattle.std.proofs.Common.{◌≤◌, ℕ, List, length, take, ap, subst, arith}
 use Rattle.std.specs.Prelude.{replicate, Err}
 use Rattle.std.proofs.lemmas.List.{length-take, length-replicate}
 use Rattle.fs_layout.specs.declared.inode.Inode.{Inode}
-use Rattle.fs_layout.specs.Images.{inode_at, Owns}
+use Rattle.fs_layout.specs.Images.{Owns}
 use Rattle.fs_layout.proofs.Consistent.{owned_is_apart}
 use Rattle.fs_layout.proofs.Places.{after_map, before_data}
-use Rattle.bit_alloc.proofs.Transactions.{map_unchanged, unchanged_joined}
 use Rattle.block_map.proofs.Joins.{sound_after_reads}
 use Rattle.block_map.proofs.Wrote.{put_few}
-use Rattle.blank_map.proofs.Placed.{has_spare}
 use Rattle.storage_tests.proofs.tests.blocks.perform.Goals as goal
 
 pub read_at-requires : goal.read_at-requires
 read_at-requires g c =
-    let sound = (sound_after_reads c.requires.sound c.in_ok-inode.ensures.same) in
-    let mid = g.S.Sectors.state c.load.new.s in
+    let sound = c.in_ok-inode.ensures.sound in
+    let mid = g.S.Sectors.state c.load_file.new.s in
     record {
       within = λ s o.
-          let d = (owned_is_apart sound.consistent c.args.ino c.requires.below).each s (subst (λ (u : Inode). Owns mid.sectors u s) (c.in_ok-inode.ensures.found ∙ ap (λ image. inode_at c.args.geometry image c.args.ino) (map_unchanged c.in_ok-inode.ensures.same)) o) in
+          let d = (owned_is_apart sound.consistent c.args.ino c.requires.below).each s (subst (λ (u : Inode). Owns mid.sectors u s) c.in_ok-inode.ensures.found o) in
           let m = after_map sound.bitmaps.geometry in
           let b = before_data sound.bitmaps.geometry in
           let k = sound.bitmaps.disk in
@@ -25,72 +23,32 @@ read_at-requires g c =
     }
 
 pub returns-in_ok-read_at-in-Read : goal.returns-in_ok-read_at-in-Read
-returns-in_ok-read_at-in-Read g c = record {
-  sound = sound_after_reads c.requires.sound
-      (unchanged_joined c.in_ok-inode.ensures.same c.in_ok-read_at-in-Read.ensures.same);
-}
-
-pub write_at-requires-clause-sound : goal.write_at-requires-clause-sound
-write_at-requires-clause-sound g c = sound_after_reads c.requires.sound c.in_ok-inode.ensures.same
-
-pub write_at-requires-clause-inode : goal.write_at-requires-clause-inode
-write_at-requires-clause-inode g c = c.in_ok-inode.ensures.found ∙ ap (λ image. inode_at c.args.geometry image c.args.ino) (map_unchanged c.in_ok-inode.ensures.same)
+returns-in_ok-read_at-in-Read g c = record { sound = sound_after_reads c.in_ok-inode.ensures.sound c.in_ok-read_at-in-Read.ensures.same }
 
 pub write_at-requires-clause-spare : goal.write_at-requires-clause-spare
 write_at-requires-clause-spare g c =
     let bytes : List ℕ = take c.in-Write.len (replicate 4096 7) in
     let few : length bytes ≤ 4096 = omega (arith, length-take {A = ℕ} c.in-Write.len (replicate 4096 7), length-replicate {A = ℕ} 4096 7) in
-    let room = has_spare c.args.geometry 16 (g.S.Sectors.state c.load.new.s) (omega (arith, c.room.ensures, c.if-room-geometry.false)) in
-    omega (arith, put_few c.in-Write.offset (length bytes) few, room)
-
-pub overwrite_direct-requires-clause-sound : goal.overwrite_direct-requires-clause-sound
-overwrite_direct-requires-clause-sound g c = sound_after_reads c.requires.sound c.in_ok-inode.ensures.same
+    omega (arith, put_few c.in-Write.offset (length bytes) few, c.in_ok-inode.ensures.spare)
 
 pub overwrite_direct-requires-clause-spare : goal.overwrite_direct-requires-clause-spare
-overwrite_direct-requires-clause-spare g c =
-    omega (arith, has_spare c.args.geometry 16 (g.S.Sectors.state c.load.new.s) (omega (arith, c.room.ensures, c.if-room-geometry.false)))
-
-pub set_size-requires-clause-sound : goal.set_size-requires-clause-sound
-set_size-requires-clause-sound g c = sound_after_reads c.requires.sound c.in_ok-inode.ensures.same
-
-pub set_size-requires-clause-inode : goal.set_size-requires-clause-inode
-set_size-requires-clause-inode g c = c.in_ok-inode.ensures.found ∙ ap (λ image. inode_at c.args.geometry image c.args.ino) (map_unchanged c.in_ok-inode.ensures.same)
+overwrite_direct-requires-clause-spare g c = omega (arith, c.in_ok-inode.ensures.spare)
 
 pub set_size-requires-clause-spare : goal.set_size-requires-clause-spare
-set_size-requires-clause-spare g c =
-    omega (arith, has_spare c.args.geometry 16 (g.S.Sectors.state c.load.new.s) (omega (arith, c.room.ensures, c.if-room-geometry.false)))
-
-pub release_all-requires-clause-sound : goal.release_all-requires-clause-sound
-release_all-requires-clause-sound g c = sound_after_reads c.requires.sound c.in_ok-inode.ensures.same
-
-pub release_all-requires-clause-inode : goal.release_all-requires-clause-inode
-release_all-requires-clause-inode g c = c.in_ok-inode.ensures.found ∙ ap (λ image. inode_at c.args.geometry image c.args.ino) (map_unchanged c.in_ok-inode.ensures.same)
+set_size-requires-clause-spare g c = omega (arith, c.in_ok-inode.ensures.spare)
 
 pub release_all-requires-clause-spare : goal.release_all-requires-clause-spare
-release_all-requires-clause-spare g c =
-    omega (arith, has_spare c.args.geometry 16 (g.S.Sectors.state c.load.new.s) (omega (arith, c.room.ensures, c.if-room-geometry.false)))
+release_all-requires-clause-spare g c = omega (arith, c.in_ok-inode.ensures.spare)
 
 pub returns-in-Err-TooBig : goal.returns-in-Err-TooBig
 returns-in-Err-TooBig g c =
     let e = c.in-Err-TooBig.ensures in
-    record {
-      sound = sound_after_reads c.requires.sound
-          (unchanged_joined c.in_ok-inode.ensures.same (e.untouched (e.too_big.0 (ap (λ x. Err x) c.in-Err-TooBig.field-0-is))));
-    }
+    record { sound = sound_after_reads c.in_ok-inode.ensures.sound (e.untouched (e.too_big.0 (ap (λ x. Err x) c.in-Err-TooBig.field-0-is))) }
 
 pub returns-in-Err-TooBig-set_size : goal.returns-in-Err-TooBig-set_size
 returns-in-Err-TooBig-set_size g c =
     let e = c.in-Err-TooBig-set_size.ensures in
-    record {
-      sound = sound_after_reads c.requires.sound
-          (unchanged_joined c.in_ok-inode.ensures.same (e.untouched (e.too_big.0 (ap (λ x. Err x) c.in-Err-TooBig-set_size.field-0-is))));
-    }
-
-pub count_free-requires : goal.count_free-requires
-count_free-requires g c = (sound_after_reads c.requires.sound c.in_ok-inode.ensures.same).bitmaps
+    record { sound = sound_after_reads c.in_ok-inode.ensures.sound (e.untouched (e.too_big.0 (ap (λ x. Err x) c.in-Err-TooBig-set_size.field-0-is))) }
 
 pub returns-else-free-wanted : goal.returns-else-free-wanted
-returns-else-free-wanted g c = record {
-  sound = sound_after_reads c.requires.sound
-      (unchanged_joined c.in_ok-inode.ensures.same c.in_ok-free-in-HasFree.ensures.same);
-}
+returns-else-free-wanted g c = record { sound = sound_after_reads c.in_ok-inode.ensures.sound c.in_ok-free-in-HasFree.ensures.same }
