@@ -4,6 +4,8 @@ use Rattle.std.proofs.Common.{◌∙◌, sym, refl, ap, subst, inl, inr}
 use Rattle.std.specs.Option.{option_map_or}
 use Rattle.std.specs.Str.Parse.{digits_value, without_leading_plus}
 use Rattle.std.specs.List.{slice_index_or}
+use Rattle.std.specs.Str.{bytes_eq}
+use Rattle.std.proofs.lemmas.Slice.Eq.{bytes_eq-Decides}
 use Rattle.clap.specs.Walk.{Text, answers_to, nothing_held, walk}
 use Rattle.clap.specs.Simple.{Shape, argument_words, built, entered, label_of, names_of, rows_at}
 use Rattle.clap.specs.Faults.{entered_fault, fault_of, level_fault}
@@ -11,7 +13,7 @@ use Rattle.clap.specs.ValueTests.{accepts}
 use Rattle.clap.specs.declared.builder.value_parser.ValueParser.TheVariants as vp
 use Rattle.clap.specs.Words.{subcommand_of}
 use Rattle.clap.proofs.ValueTestLemmas.{accepts-Accepts}
-use Rattle.fs_command.specs.Words.{HasValues, IsNumberFor, IsWhole, command_line}
+use Rattle.fs_command.specs.Words.{HasValues, IsNumberFor, command_line}
 use Rattle.fs_command.proofs.Taken.{Each, Sound, found_holds, leaf_flags, leaf_texts, leaf_values, no_kinds}
 
 counted : (least most : ℕ) (o : Option Text) (v : Text) → o ≡ Some v → accepts false (vp.Unsigned least most) v ≡ true → (n : ℕ) × IsNumberFor least most o n
@@ -23,7 +25,13 @@ counted least most o v e passes =
 
 -- the words of a command that have no fault give its values
 abbrev HasAll : Shape → Type 0
-HasAll s = (words : List Text) → level_fault s [] nothing_held words false [] ≡ [] → IsWhole (rows_at s words)
+HasAll s = (words : List Text) → level_fault s [] nothing_held words false [] ≡ [] → HasValues (Some (rows_at s words))
+
+-- a command has the values of none that has another name
+of_another : {P : Type 0} {name other : Text} → name ≡ other → bytes_eq name other ≡ false → P
+of_another {name = name} {other = other} is differs =
+    let same : bytes_eq name other ≡ true = (bytes_eq-Decides name other).1 is in
+    cc
 
 -- a command as the program's definition has it
 abbrev leaf : ℕ → Shape
@@ -77,7 +85,17 @@ mkfs_has words fault =
     let image = values.0 refl in
     let sectors = values.1.0 refl in
     let inodes = values.1.1.0 refl in
-    inl (refl, (image.0, image.1), counted 1024 65536 _ sectors.0 sectors.2 sectors.3, counted 16 4096 _ inodes.0 inodes.2 inodes.3)
+    record {
+      known = refl;
+      image = (image.0, image.1);
+      mkfs = λ _. (counted 1024 65536 _ sectors.0 sectors.2 sectors.3, counted 16 4096 _ inodes.0 inodes.2 inodes.3);
+      format = λ is. of_another is refl;
+      pack = λ is. of_another is refl;
+      unpack = λ is. of_another is refl;
+      check = λ is. of_another is refl;
+      info = λ is. of_another is refl;
+      fuse = λ is. of_another is refl;
+    }
 
 format_has : HasAll (leaf 1)
 format_has words fault =
@@ -85,7 +103,17 @@ format_has words fault =
     let image = values.0 refl in
     let size = values.1.0 refl in
     let inodes = (leaf_texts (leaf 1) words format_sound fault).1.1.0 in
-    inr (inl (refl, (image.0, image.1), (size.0, size.1), λ text is. counted 16 1048576 _ (inodes text is).0 (is ∙ ap Some (inodes text is).1) (inodes text is).2))
+    record {
+      known = refl;
+      image = (image.0, image.1);
+      mkfs = λ is. of_another is refl;
+      format = λ _. ((size.0, size.1), (λ text is. counted 16 1048576 _ (inodes text is).0 (is ∙ ap Some (inodes text is).1) (inodes text is).2));
+      pack = λ is. of_another is refl;
+      unpack = λ is. of_another is refl;
+      check = λ is. of_another is refl;
+      info = λ is. of_another is refl;
+      fuse = λ is. of_another is refl;
+    }
 
 pack_has : HasAll (leaf 2)
 pack_has words fault =
@@ -97,50 +125,112 @@ pack_has words fault =
     let inodes = texts.1.1.1.0 in
     let user = texts.1.1.1.1.0 in
     let group = texts.1.1.1.1.1.0 in
-    inr (inr (inl (
-      refl,
-      (image.0, image.1),
-      (from.0, from.1),
-      (size.0, size.1),
-      (λ text is. counted 16 1048576 _ (inodes text is).0 (is ∙ ap Some (inodes text is).1) (inodes text is).2),
-      (λ text is. counted 0 4294967295 _ (user text is).0 (is ∙ ap Some (user text is).1) (user text is).2),
-      (λ text is. counted 0 4294967295 _ (group text is).0 (is ∙ ap Some (group text is).1) (group text is).2),
-    )))
+    record {
+      known = refl;
+      image = (image.0, image.1);
+      mkfs = λ is. of_another is refl;
+      format = λ is. of_another is refl;
+      pack = λ _. ((from.0, from.1), (size.0, size.1), (λ text is. counted 16 1048576 _ (inodes text is).0 (is ∙ ap Some (inodes text is).1) (inodes text is).2), (λ text is. counted 0 4294967295 _ (user text is).0 (is ∙ ap Some (user text is).1) (user text is).2), (λ text is. counted 0 4294967295 _ (group text is).0 (is ∙ ap Some (group text is).1) (group text is).2));
+      unpack = λ is. of_another is refl;
+      check = λ is. of_another is refl;
+      info = λ is. of_another is refl;
+      fuse = λ is. of_another is refl;
+    }
 
 unpack_has : HasAll (leaf 3)
 unpack_has words fault =
     let values = leaf_values (leaf 3) words unpack_sound refl fault in
     let image = values.0 refl in
     let to = values.1.0 refl in
-    inr (inr (inr (inl (refl, (image.0, image.1), (to.0, to.1)))))
+    record {
+      known = refl;
+      image = (image.0, image.1);
+      mkfs = λ is. of_another is refl;
+      format = λ is. of_another is refl;
+      pack = λ is. of_another is refl;
+      unpack = λ _. (to.0, to.1);
+      check = λ is. of_another is refl;
+      info = λ is. of_another is refl;
+      fuse = λ is. of_another is refl;
+    }
 
 run_has : HasAll (leaf 4)
 run_has words fault =
     let image = (leaf_values (leaf 4) words run_sound refl fault).0 refl in
-    inr (inr (inr (inr (inl (refl, (image.0, image.1))))))
+    record {
+      known = refl;
+      image = (image.0, image.1);
+      mkfs = λ is. of_another is refl;
+      format = λ is. of_another is refl;
+      pack = λ is. of_another is refl;
+      unpack = λ is. of_another is refl;
+      check = λ is. of_another is refl;
+      info = λ is. of_another is refl;
+      fuse = λ is. of_another is refl;
+    }
 
 check_has : HasAll (leaf 5)
 check_has words fault =
     let image = (leaf_values (leaf 5) words check_sound refl fault).0 refl in
     let explain = (leaf_flags (leaf 5) words check_sound fault).1.0 (refl, refl, refl, refl, refl, refl) in
-    inr (inr (inr (inr (inr (inl (refl, (image.0, image.1), explain))))))
+    record {
+      known = refl;
+      image = (image.0, image.1);
+      mkfs = λ is. of_another is refl;
+      format = λ is. of_another is refl;
+      pack = λ is. of_another is refl;
+      unpack = λ is. of_another is refl;
+      check = λ _. explain;
+      info = λ is. of_another is refl;
+      fuse = λ is. of_another is refl;
+    }
 
 info_has : HasAll (leaf 6)
 info_has words fault =
     let image = (leaf_values (leaf 6) words info_sound refl fault).0 refl in
     let json = (leaf_flags (leaf 6) words info_sound fault).1.0 (refl, refl, refl, refl, refl, refl) in
-    inr (inr (inr (inr (inr (inr (inl (refl, (image.0, image.1), json)))))))
+    record {
+      known = refl;
+      image = (image.0, image.1);
+      mkfs = λ is. of_another is refl;
+      format = λ is. of_another is refl;
+      pack = λ is. of_another is refl;
+      unpack = λ is. of_another is refl;
+      check = λ is. of_another is refl;
+      info = λ _. json;
+      fuse = λ is. of_another is refl;
+    }
 
 upgrade_has : HasAll (leaf 7)
 upgrade_has words fault =
     let image = (leaf_values (leaf 7) words upgrade_sound refl fault).0 refl in
-    inr (inr (inr (inr (inr (inr (inr (inl (refl, (image.0, image.1)))))))))
+    record {
+      known = refl;
+      image = (image.0, image.1);
+      mkfs = λ is. of_another is refl;
+      format = λ is. of_another is refl;
+      pack = λ is. of_another is refl;
+      unpack = λ is. of_another is refl;
+      check = λ is. of_another is refl;
+      info = λ is. of_another is refl;
+      fuse = λ is. of_another is refl;
+    }
 
 fuse_has : HasAll (leaf 8)
 fuse_has words fault =
     let image = (leaf_values (leaf 8) words fuse_sound refl fault).0 refl in
     let own_rules = (leaf_flags (leaf 8) words fuse_sound fault).1.1.0 (refl, refl, refl, refl, refl, refl) in
-    inr (inr (inr (inr (inr (inr (inr (inr (refl, (image.0, image.1), own_rules))))))))
+    record {
+      known = refl;
+      image = (image.0, image.1);
+      mkfs = λ is. of_another is refl;
+      format = λ is. of_another is refl;
+      pack = λ is. of_another is refl;
+      unpack = λ is. of_another is refl;
+      check = λ is. of_another is refl;
+      info = λ is. of_another is refl;
+      fuse = λ _. own_rules;
+    }
 
 each_has : Each HasAll (built command_line).subs
 each_has = (mkfs_has, (format_has, (pack_has, (unpack_has, (run_has, (check_has, (info_has, (upgrade_has, (fuse_has, tt)))))))))

@@ -3,7 +3,9 @@
 --     AsksFor          a job is what that definition reads from the words
 --     Refuses          a fault is one that it gives them
 --     words_status     the status of a fault
-use Rattle.std.specs.Prelude.{◌≡◌, ◌≢◌, ◌≤◌, ◌⊎◌, ℕ, List, [], Option, Some, None, codes, true, false}
+use Rattle.std.specs.Prelude.{◌≡◌, ◌≢◌, ◌≤◌, ◌⊎◌, ℕ, List, [], ◌∷◌, Option, Some, None, codes, true, false}
+use Rattle.std.specs.List.{list_any}
+use Rattle.std.specs.Str.{bytes_eq}
 use Rattle.std.specs.Str.Parse.{IsNumeral, digits_value, without_leading_plus}
 use Rattle.clap.specs.Words.{App, Row, Rule, Text, IsAmong, fault_of, first_of, kind_of, new_app, new_rule, one_of, subcommand_of, with_rule, with_subcommand}
 use Rattle.clap.specs.Takes.{is_given}
@@ -246,22 +248,24 @@ IsNumberIfGiven least most id rows = (text : Text) → one_of id rows ≡ Some t
 abbrev pub IsFlag : Text → List Row → Type 0
 IsFlag id rows = (one_of id rows ≡ Some (bool_text (is_given id rows))) ⊎ ((one_of id rows ≡ None) × (is_given id rows ≡ false))
 
+-- the names of the nine commands
+abbrev pub command_names : List Text
+command_names =
+    codes "mkfs" ∷ codes "format" ∷ codes "pack" ∷ codes "unpack" ∷ codes "run" ∷ codes "check" ∷ codes "info" ∷ codes "upgrade" ∷ codes "fuse" ∷ []
+
 -- the command is one of the nine, and has the values that have to be given
-abbrev pub IsWhole : Text × List Row → Type 0
-IsWhole named = ((named.0 ≡ codes "mkfs") × IsGiven (codes "IMAGE") named.1
-    × IsNumberGiven 1024 65536 (codes "sectors") named.1 × IsNumberGiven 16 4096 (codes "inodes") named.1)
-    ⊎ (((named.0 ≡ codes "format") × IsGiven (codes "IMAGE") named.1
-    × IsGiven (codes "size") named.1 × IsNumberIfGiven 16 1048576 (codes "inodes") named.1)
-    ⊎ (((named.0 ≡ codes "pack") × IsGiven (codes "IMAGE") named.1 × IsGiven (codes "DIR") named.1
-    × IsGiven (codes "size") named.1 × IsNumberIfGiven 16 1048576 (codes "inodes") named.1
-    × IsNumberIfGiven 0 4294967295 (codes "uid") named.1 × IsNumberIfGiven 0 4294967295 (codes "gid") named.1)
-    ⊎ (((named.0 ≡ codes "unpack") × IsGiven (codes "IMAGE") named.1 × IsGiven (codes "DIR") named.1)
-    ⊎ (((named.0 ≡ codes "run") × IsGiven (codes "IMAGE") named.1)
-    ⊎ (((named.0 ≡ codes "check") × IsGiven (codes "IMAGE") named.1 × IsFlag (codes "explain") named.1)
-    ⊎ (((named.0 ≡ codes "info") × IsGiven (codes "IMAGE") named.1 × IsFlag (codes "json") named.1)
-    ⊎ (((named.0 ≡ codes "upgrade") × IsGiven (codes "IMAGE") named.1)
-    ⊎ ((named.0 ≡ codes "fuse") × IsGiven (codes "IMAGE") named.1 × IsFlag (codes "own-rules") named.1))))))))
+pub record IsWhole (name : Text) (rows : List Row) : Type 0 where
+  pub known : list_any (λ command. bytes_eq name command) command_names ≡ true
+  pub image : IsGiven (codes "IMAGE") rows
+  pub mkfs : name ≡ codes "mkfs" → IsNumberGiven 1024 65536 (codes "sectors") rows × IsNumberGiven 16 4096 (codes "inodes") rows
+  pub format : name ≡ codes "format" → IsGiven (codes "size") rows × IsNumberIfGiven 16 1048576 (codes "inodes") rows
+  pub pack : name ≡ codes "pack" → IsGiven (codes "DIR") rows × IsGiven (codes "size") rows × IsNumberIfGiven 16 1048576 (codes "inodes") rows
+      × IsNumberIfGiven 0 4294967295 (codes "uid") rows × IsNumberIfGiven 0 4294967295 (codes "gid") rows
+  pub unpack : name ≡ codes "unpack" → IsGiven (codes "DIR") rows
+  pub check : name ≡ codes "check" → IsFlag (codes "explain") rows
+  pub info : name ≡ codes "info" → IsFlag (codes "json") rows
+  pub fuse : name ≡ codes "fuse" → IsFlag (codes "own-rules") rows
 
 abbrev pub HasValues : Option (Text × List Row) → Type 0
 HasValues None = Unit {0}
-HasValues (Some named) = IsWhole named
+HasValues (Some named) = IsWhole named.0 named.1

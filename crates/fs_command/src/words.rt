@@ -1,11 +1,12 @@
 //! What the words of the command line ask for.
-ghost use Rattle.std.specs.Prelude.{◌≡◌, MatchResult, IfOk, IsOkAnd, Some, [], codes, map, string_bytes, false};
+ghost use Rattle.std.specs.Prelude.{◌≡◌, MatchResult, Ok, IfOk, IsOkAnd, Some, [], codes, map, string_bytes, false};
 ghost use Rattle.clap.specs.Takes.{is_given};
 ghost use Rattle.clap.specs.Words.{AddsSubcommand, app_of, first_of, found_of, new_app, one_of, rows_of, rule_of, fault_of, subcommand_rows_of, with_rule};
 ghost use Rattle.fs_command.specs.Words.{command_line, with_users, with_makers, alone, mkfs, format, pack, unpack, run, check, info, upgrade, fuse};
 ghost use Rattle.fs_command.specs.Words.{image, directory, must_be_given, number_option, text_option, flag, with_size, words_status};
 ghost use Rattle.fs_command.specs.Sizes.{usual_inodes};
-ghost use Rattle.fs_command.specs.Words.{HasValues, IsGiven, IsNumberGiven, IsNumberIfGiven, IsNumberOr, IsFlag, IsSizeFor, AsksFor, SaysJob, Refuses};
+ghost use Rattle.fs_command.specs.Words.{HasValues, IsGiven, IsNumberGiven, IsNumberIfGiven, IsNumberOr, IsFlag, IsSizeFor, IsWhole, AsksFor, SaysJob, Refuses};
+ghost use Rattle.fs_command.specs.declared.words.WordsFault.TheVariants.{OutOfMemory};
 ghost use Rattle.fs_command.specs.Words.{SaysMkfs, SaysFormat, SaysPack, SaysUnpack, SaysRun, SaysCheck, SaysInfo, SaysUpgrade, SaysFuse, HasBadSize, HasBadValue};
 
 use crate::size::{sectors_of_size, usual_inodes};
@@ -220,34 +221,37 @@ fn named_job(alloc: Global, matches: &ArgMatches<'_>) -> Result<Job, WordsFault>
     requires { HasValues (subcommand_rows_of matches.now) }
     ensures { MatchResult result (SaysJob (subcommand_rows_of matches.now)) (HasBadValue (subcommand_rows_of matches.now)) }
 {
-    if let Some(matches) = matches.subcommand_matches("mkfs") {
-        return Ok(mkfs_job(alloc, matches)?);
+    match matches.subcommand() {
+        Some((name, matches)) => command_job(alloc, name, matches),
+        None => Ok(Job::Memory),
     }
-    if let Some(matches) = matches.subcommand_matches("format") {
-        return format_job(alloc, matches);
+}
+
+// The job of the command with this name.
+fn command_job(alloc: Global, name: &str, matches: &ArgMatches<'_>) -> Result<Job, WordsFault>
+    requires { IsWhole name.now (rows_of (found_of matches.now)) }
+    ensures { MatchResult result (SaysJob (Some (name.now, rows_of (found_of matches.now))))
+        (HasBadValue (Some (name.now, rows_of (found_of matches.now)))) }
+{
+    match name {
+        "mkfs" => in_memory(mkfs_job(alloc, matches)),
+        "format" => format_job(alloc, matches),
+        "pack" => pack_job(alloc, matches),
+        "unpack" => in_memory(unpack_job(alloc, matches)),
+        "run" => in_memory(run_job(alloc, matches)),
+        "check" => in_memory(check_job(alloc, matches)),
+        "info" => in_memory(info_job(alloc, matches)),
+        "upgrade" => in_memory(upgrade_job(alloc, matches)),
+        "fuse" => in_memory(fuse_job(alloc, matches)),
+        _ => unreachable!(),
     }
-    if let Some(matches) = matches.subcommand_matches("pack") {
-        return pack_job(alloc, matches);
-    }
-    if let Some(matches) = matches.subcommand_matches("unpack") {
-        return Ok(unpack_job(alloc, matches)?);
-    }
-    if let Some(matches) = matches.subcommand_matches("run") {
-        return Ok(run_job(alloc, matches)?);
-    }
-    if let Some(matches) = matches.subcommand_matches("check") {
-        return Ok(check_job(alloc, matches)?);
-    }
-    if let Some(matches) = matches.subcommand_matches("info") {
-        return Ok(info_job(alloc, matches)?);
-    }
-    if let Some(matches) = matches.subcommand_matches("upgrade") {
-        return Ok(upgrade_job(alloc, matches)?);
-    }
-    if let Some(matches) = matches.subcommand_matches("fuse") {
-        return Ok(fuse_job(alloc, matches)?);
-    }
-    Ok(Job::Memory)
+}
+
+// The job, unless memory ran out for it.
+fn in_memory(job: Result<Job, AllocError>) -> Result<Job, WordsFault>
+    ensures { MatchResult result (λ made. job ≡ Ok made) (λ fault. fault ≡ OutOfMemory) }
+{
+    Ok(job?)
 }
 
 // The job of `mkfs`.
