@@ -5,12 +5,12 @@ use Rattle.fs_model.specs.States.{State}
 use Rattle.fs_model.specs.declared.event.Event.TheVariants.{Sync}
 use Rattle.fs_model.specs.declared.event.EventReply.TheVariants.{Reply as Replies}
 use Rattle.fs_model.specs.declared.reply.Reply.{Reply}
-use Rattle.fs_system.specs.Doing.{Does, HappensLast}
-use Rattle.fs_system.specs.Histories.{Config, Up, Off, History}
+use Rattle.fs_system.specs.Doing.{HappensLast}
+use Rattle.fs_system.specs.Histories.{History}
 use Rattle.fs_system.specs.Mounts.{Mounts}
-use Rattle.fs_system.specs.Playing.{HasDisk, IsConfig, Plays}
+use Rattle.fs_system.specs.Playing.{Plays}
 use Rattle.fs_system.specs.Seen.{System, disk_in, IsIn}
-use Rattle.fs_system.proofs.Played.{plays_nothing, plays_joined, seen_in, the_disk}
+use Rattle.fs_system.proofs.Played.{plays_nothing, plays_joined}
 use Rattle.fs_fuse.specs.Performing.{ServesOne}
 use Rattle.host_trees.specs.Copies.{Asked, Copies, ServesAll, stays, goes}
 use Rattle.host_trees.specs.declared.fault.Copied.{Copied}
@@ -18,6 +18,7 @@ use Rattle.host_trees.specs.declared.fault.CopyFault.{CopyFault}
 use Rattle.host_trees.proofs.Asking.{copies_along}
 use Rattle.fs_command.specs.declared.status.Status.{Status}
 use Rattle.fs_program.specs.declared.failure.Failure.{Failure}
+use Rattle.fs_program.proofs.Ends.{session}
 use Rattle.fs_program.specs.Copying.{CopiesOn, MountedEnds, copy_end}
 
 module _ {D : Type 0} (state : D → DiskState) where
@@ -32,34 +33,21 @@ module _ {D : Type 0} (state : D → DiskState) where
   pub copies_on : (disk left : D) (first now : System D) (Are : List Asked → Type 0) (reply : Reply)
       → (m : (s : State) × IsIn state first s × Mounts (state disk) (disk_in state first.base) s)
       → Copies (ServesOne state) first now Are → HappensLast state now left Sync reply → CopiesOn state disk Are reply
-  copies_on disk left first now Are reply m copies last = ends end.0 end.1 end.2
-    where
-      there : (d : D) × HasDisk first.base d
-      there = the_disk state first m.0 m.1
-
-      end : (d : Config D) × IsConfig state (Ok now) d
-          × History state (Up m.0 there.0) (map (λ a. a.event) copies.asked) (map (λ a. Replies a.reply) copies.asked) d
-      end = asked_plays first now copies.asked copies.goes (Up m.0 there.0) (there.1, m.1)
-
-      ends : (d : Config D) → IsConfig state (Ok now) d
-          → History state (Up m.0 there.0) (map (λ a. a.event) copies.asked) (map (λ a. Replies a.reply) copies.asked) d
-          → CopiesOn state disk Are reply
-      ends (Off d) is runs = absurd is
-      ends (Up t d) is runs =
-          let done = last t is.1 in
-          record {
-            first = there.0;
-            s = m.0;
-            mounts = seen_in state (λ x. Mounts (state disk) x m.0) first.base there.0 there.1 m.2;
-            asked = copies.asked;
-            last = d;
-            t = t;
-            history = runs;
-            are = copies.are;
-            left = left;
-            u = done.0;
-            unmounts = seen_in state (λ x. Does x (state left) t Sync reply done.0) now.base d is.0 done.1;
-          }
+  copies_on disk left first now Are reply m copies last =
+      session state disk left first now (λ c d. History state c (map (λ a. a.event) copies.asked) (map (λ a. Replies a.reply) copies.asked) d) reply m
+      (asked_plays first now copies.asked copies.goes) last (λ start end t u mounts runs unmounts. record {
+        first = start;
+        s = m.0;
+        mounts = mounts;
+        asked = copies.asked;
+        last = end;
+        t = t;
+        history = runs;
+        are = copies.are;
+        left = left;
+        u = u;
+        unmounts = unmounts;
+      })
 
 -- a file system that was copied to or from, and unmounted
 pub mounted_ends : {D : Type 0} {state : D → DiskState} {fs start last now : System D} {left : D} (Are : List Asked → Result Copied CopyFault → Type 0)

@@ -58,6 +58,28 @@ refuses_nothing version sectors inodes geometry has =
 
 -- ---- runs
 
+-- a disk was mounted, something ran on its file system, and that was unmounted: what holds of such states, from the first to the last
+pub session : {D P : Type 0} (state : D → DiskState) (disk left : D) (first now : System D) (Runs : Config D → Config D → Type 0) (reply : Reply)
+    → (m : (s : State) × IsIn state first s × Mounts (state disk) (disk_in state first.base) s)
+    → ((c : Config D) → IsConfig state (Ok first) c → (d : Config D) × IsConfig state (Ok now) d × Runs c d)
+    → HappensLast state now left Sync reply
+    → ((start end : D) (t u : State) → Mounts (state disk) (state start) m.0 → Runs (Up m.0 start) (Up t end)
+    → Does (state end) (state left) t Sync reply u → P) → P
+session {D} {P} state disk left first now Runs reply m run last holds = ends end.0 end.1 end.2
+  where
+    there : (d : D) × HasDisk first.base d
+    there = the_disk state first m.0 m.1
+
+    end : (d : Config D) × IsConfig state (Ok now) d × Runs (Up m.0 there.0) d
+    end = run (Up m.0 there.0) (there.1, m.1)
+
+    ends : (d : Config D) → IsConfig state (Ok now) d → Runs (Up m.0 there.0) d → P
+    ends (Off d) is runs = absurd is
+    ends (Up t d) is runs =
+        let done = last t is.1 in
+        holds there.0 d t done.0 (seen_in state (λ x. Mounts (state disk) x m.0) first.base there.0 there.1 m.2) runs
+        (seen_in state (λ x. Does x (state left) t Sync reply done.0) now.base d is.0 done.1)
+
 -- a disk that was mounted, run on and unmounted
 pub runs_on : {D : Type 0} (state : D → DiskState) (disk left : D) (first now : System D) (r : Reading) (w : Writing)
     (ran : Result Count RunFault) (reply : Reply)
@@ -65,29 +87,18 @@ pub runs_on : {D : Type 0} (state : D → DiskState) (disk left : D) (first now 
     → ((c : Config D) → IsConfig state (Ok first) c → (d : Config D) × IsConfig state (Ok now) d × Ran state r.input w.before w.after c d ran)
     → FailsWhere r.had_failed r.has_failed (ran ≡ Err ReadFault) → FailsWhere w.had_failed w.has_failed (ran ≡ Err WriteFault)
     → OnOk ran (IsTrue w.is_flushed) → HappensLast state now left Sync reply → RunsOn state disk r w ran reply
-runs_on {D} state disk left first now r w ran reply m run reads writes flushed last = ends end.0 end.1 end.2
-  where
-    there : (d : D) × HasDisk first.base d
-    there = the_disk state first m.0 m.1
-
-    end : (d : Config D) × IsConfig state (Ok now) d × Ran state r.input w.before w.after (Up m.0 there.0) d ran
-    end = run (Up m.0 there.0) (there.1, m.1)
-
-    ends : (d : Config D) → IsConfig state (Ok now) d → Ran state r.input w.before w.after (Up m.0 there.0) d ran → RunsOn state disk r w ran reply
-    ends (Off d) is runs = absurd is
-    ends (Up t d) is runs =
-        let done = last t is.1 in
-        record {
-          first = there.0;
-          s = m.0;
-          mounts = seen_in state (λ x. Mounts (state disk) x m.0) first.base there.0 there.1 m.2;
-          last = d;
-          t = t;
-          runs = runs;
-          read_fault = reads;
-          write_fault = writes;
-          flushed = flushed;
-          left = left;
-          u = done.0;
-          unmounts = seen_in state (λ x. Does x (state left) t Sync reply done.0) now.base d is.0 done.1;
-        }
+runs_on state disk left first now r w ran reply m run reads writes flushed last =
+    session state disk left first now (λ c d. Ran state r.input w.before w.after c d ran) reply m run last (λ start end t u mounts runs unmounts. record {
+      first = start;
+      s = m.0;
+      mounts = mounts;
+      last = end;
+      t = t;
+      runs = runs;
+      read_fault = reads;
+      write_fault = writes;
+      flushed = flushed;
+      left = left;
+      u = u;
+      unmounts = unmounts;
+    })
