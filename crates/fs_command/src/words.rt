@@ -234,21 +234,21 @@ fn command_job(alloc: Global, name: &str, matches: &ArgMatches<'_>) -> Result<Jo
         (HasBadValue (Some (name.now, rows_of (found_of matches.now)))) }
 {
     match name {
-        "mkfs" => in_memory(mkfs_job(alloc, matches)),
+        "mkfs" => if_made(mkfs_job(alloc, matches)),
         "format" => format_job(alloc, matches),
         "pack" => pack_job(alloc, matches),
-        "unpack" => in_memory(unpack_job(alloc, matches)),
-        "run" => in_memory(run_job(alloc, matches)),
-        "check" => in_memory(check_job(alloc, matches)),
-        "info" => in_memory(info_job(alloc, matches)),
-        "upgrade" => in_memory(upgrade_job(alloc, matches)),
-        "fuse" => in_memory(fuse_job(alloc, matches)),
+        "unpack" => if_made(unpack_job(alloc, matches)),
+        "run" => if_made(run_job(alloc, matches)),
+        "check" => if_made(check_job(alloc, matches)),
+        "info" => if_made(info_job(alloc, matches)),
+        "upgrade" => if_made(upgrade_job(alloc, matches)),
+        "fuse" => if_made(fuse_job(alloc, matches)),
         _ => unreachable!(),
     }
 }
 
-// The job, unless memory ran out for it.
-fn in_memory(job: Result<Job, AllocError>) -> Result<Job, WordsFault>
+// The job, if there was memory for it.
+fn if_made(job: Result<Job, AllocError>) -> Result<Job, WordsFault>
     ensures { MatchResult result (λ made. job ≡ Ok made) (λ fault. fault ≡ OutOfMemory) }
 {
     Ok(job?)
