@@ -1,18 +1,20 @@
 -- The exits of a call by two paths.
---     second_refused, first_unfit, second_unfit        the checks of its paths
+--     first_refused, second_refused, first_unfit, second_unfit, both_fit, path_short        the checks of its paths
 --     walked_as, first_walk_refused, second_walk_refused, both_walked        its walks
 --     absent_both, unwalked_both, walks_refused        its process, the checks or the walks of its paths refuse
 --     both_found        what its walks have found
 --     both_refused        what it asks of that refuses
 --     both_broken, both_broken_later        the disk fails
 --     both_performs        it is done
-use Rattle.std.specs.Prelude.{◌≡◌, ℕ, List, None, Some, Result, Ok, Err, IsErr, IsErrAnd}
-use Rattle.std.proofs.Common.{refl, sym, ap, subst, ◌∙◌, inl, inr}
+use Rattle.std.specs.Prelude.{◌≡◌, ℕ, ◌≤◌, ◌==◌, nat_lt, false, List, length, None, Some, Result, Ok, Err, IsErr, IsErrAnd}
+use Rattle.std.specs.List.{list_any}
+use Rattle.std.proofs.Common.{refl, sym, ap, subst, arith, ◌∙◌, inl, inr}
+use Rattle.std.proofs.lemmas.Bool.Decides.{nat_tests}
 use Rattle.std.specs.Ordering.{nat_cmp}
 use Rattle.sector_disk.specs.Disk.{DiskState}
 use Rattle.sector_disk.proofs.Moments.{failed_later}
 use Rattle.fs_cred.specs.declared.errno.Errno.{Errno}
-use Rattle.fs_cred.specs.declared.errno.Errno.TheVariants.{ESRCH}
+use Rattle.fs_cred.specs.declared.errno.Errno.TheVariants.{EINVAL, ENAMETOOLONG, ENOENT, ESRCH}
 use Rattle.fs_cred.specs.declared.refusal.Refusal.{Refusal}
 use Rattle.fs_cred.specs.declared.refusal.Refusal.TheVariants.{Failed}
 use Rattle.fs_cred.specs.Credentials.{Credential}
@@ -26,14 +28,15 @@ use Rattle.fs_model.specs.declared.reply.Reply.{Reply}
 use Rattle.fs_model.specs.declared.touch.Touch.{Touch}
 use Rattle.fs_model.specs.declared.walk.Form.TheVariants.{Parent}
 use Rattle.fs_model.specs.declared.walk.Found.{Found}
-use Rattle.fs_model.specs.Demands.{Demand, or_else, first_of}
-use Rattle.fs_model.specs.Parts.{path_checks}
+use Rattle.fs_model.specs.Demands.{Demand, or_else, refuse, first_of}
+use Rattle.fs_model.specs.Limits.{path_limit}
+use Rattle.fs_model.specs.Parts.{is_empty, path_checks}
 use Rattle.fs_model.specs.Processes.{Process, ProcessTable}
 use Rattle.fs_model.specs.Scenes.{Scene, Effect, Row}
 use Rattle.fs_model.specs.States.{State}
 use Rattle.fs_model.specs.Steps.{after, after_call, after_effect, early_refusal, late_refusal, firm_refusal, other_refusal, found_by}
 use Rattle.fs_model.specs.Trees.{Room, Tree}
-use Rattle.fs_model.proofs.StepsDemands.{first_met, then_met}
+use Rattle.fs_model.proofs.StepsDemands.{first_met, then_met, unrefused}
 use Rattle.fs_model.proofs.Unchanged.{same_process_stays}
 use Rattle.path_walk.specs.Answers.{refused_or, FailsToRead, IsAnswered}
 use Rattle.path_walk.specs.HeldTrees.{IsThere}
@@ -45,12 +48,20 @@ use Rattle.call_parts.proofs.Calling.{absent_refused, early_is, late_is, after_i
 use Rattle.path_walk.proofs.Kept.{is_err, interrupts_later}
 use Rattle.call_parts.specs.Times.{MovesTimes}
 use Rattle.call_parts.proofs.Changed.{IsChange, times_moved}
-use Rattle.call_parts.specs.Reaching.{checked, WalksBoth, RefusesBoth, HasWalkedBoth}
+use Rattle.call_parts.proofs.Ownership.{all_met}
+use Rattle.call_parts.proofs.Refuses.{demand_met}
+use Rattle.call_parts.specs.Telling.{checked}
+use Rattle.call_parts.specs.Reaching.{WalksBoth, RefusesBoth, HasWalkedBoth}
 use Rattle.call_parts.specs.TwoPaths.{both_checks, walk_refusal, walks_of, scene_with, HasFoundBoth}
 
 -- ---- both paths, one after the other
 
 -- the first may be walked, and the second is refused with this
+pub first_refused : (old new : List ℕ) (e : Refusal) → checked (first_of (path_checks old)) ≡ Err e → first_of (both_checks old new) ≡ Some e
+first_refused old new e is =
+    first_of-append (path_checks old) (path_checks new)
+    ∙ ap (λ (d : Demand). or_else d (first_of (path_checks new))) (refused_err {A = Unit {0}} (first_of (path_checks old)) tt e is)
+
 pub second_refused : (old new : List ℕ) (e : Refusal) → checked (first_of (path_checks old)) ≡ Ok tt → checked (first_of (path_checks new)) ≡ Err e
     → first_of (both_checks old new) ≡ Some e
 second_refused old new e met is =
@@ -66,14 +77,24 @@ module _ {A : Type 0} (old new : List ℕ) (r : Result A Refusal) (e : Refusal) 
 
   -- the first may not be walked
   pub first_unfit : checked (first_of (path_checks old)) ≡ Err e → (x : Refusal) → first_of (both_checks old new) ≡ Some x → r ≡ Err x
-  first_unfit is x = refused_by
-      (first_of-append (path_checks old) (path_checks new)
-      ∙ ap (λ (d : Demand). or_else d (first_of (path_checks new))) (refused_err {A = Unit {0}} (first_of (path_checks old)) tt e is))
+  first_unfit is x = refused_by (first_refused old new e is)
 
   -- the first may be walked, and the second may not
   pub second_unfit : checked (first_of (path_checks old)) ≡ Ok tt → checked (first_of (path_checks new)) ≡ Err e
       → (x : Refusal) → first_of (both_checks old new) ≡ Some x → r ≡ Err x
   second_unfit met is x = refused_by (second_refused old new e met is)
+
+-- both may be walked
+pub both_fit : (old new : List ℕ) → checked (first_of (path_checks old)) ≡ Ok tt → checked (first_of (path_checks new)) ≡ Ok tt → first_of (both_checks old new) ≡ None
+both_fit old new first second = all_met (path_checks old) (path_checks new) (demand_met (first_of (path_checks old)) first) (demand_met (first_of (path_checks new)) second)
+
+pub path_short : (path : List ℕ) → checked (first_of (path_checks path)) ≡ Ok tt → length path ≤ path_limit
+path_short path fits =
+    let none = demand_met (first_of (path_checks path)) fits in
+    let rest = then_met (refuse EINVAL (list_any (λ b. b == 0) path)) _ (then_met (refuse ENOENT (is_empty path)) _ none) in
+    let long : nat_lt path_limit (length path) ≡ false =
+    unrefused ENAMETOOLONG (nat_lt path_limit (length path)) (first_met (refuse ENAMETOOLONG (nat_lt path_limit (length path))) None rest) in
+    grind (arith, nat_tests)
 
 -- a walk from a directory of the process, as the process
 pub walked_as : {cred who : Credential} {cwd here : ℕ} (old new : DiskState) (room : Room) (t : Tree) (walk : ℕ) (path : List ℕ) (r : Result Found Refusal) → cred ≡ who → cwd ≡ here

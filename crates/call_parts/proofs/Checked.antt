@@ -13,7 +13,7 @@ use Rattle.fs_model.specs.Demands.{Demand, or_else, first_of}
 use Rattle.fs_model.specs.Nodes.{Body, File, Dir, Link, is_link}
 use Rattle.fs_model.specs.StoredNodes.{HoldsBody}
 use Rattle.fs_model.specs.Summaries.{is_link_kind}
-use Rattle.call_parts.specs.Reaching.{Checked, checked}
+use Rattle.call_parts.specs.Telling.{Checked, checked}
 use Rattle.path_walk.specs.Answers.{refused_or, IsAnswered}
 use Rattle.call_parts.proofs.Calling.{first_of-append, refused_err, met_ok, or_else-none}
 use Rattle.path_walk.proofs.Kept.{is_err}

@@ -21,3 +21,5 @@ pub mod Performed
 pub mod NewNames
 pub mod Refuses
 pub mod TouchedTrees
+pub mod Alterings
+pub mod Readings

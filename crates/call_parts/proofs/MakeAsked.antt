@@ -1,11 +1,10 @@
 -- What is asked of a directory before something is made in it.
-use Rattle.std.specs.Prelude.{◌≡◌, ℕ, ◌*◌, ◌≤◌, ◌==◌, nat_lt, nat_le, Bool, true, false, [], ◌∷◌, length, None, Ok, Err}
-use Rattle.std.proofs.Common.{refl, sym, ap, subst, arith, ◌∙◌, inl}
+use Rattle.std.specs.Prelude.{◌≡◌, ℕ, ◌*◌, ◌≤◌, ◌==◌, nat_lt, nat_le, Bool, true, false, [], ◌∷◌, length, None, Some, Ok}
+use Rattle.std.proofs.Common.{refl, sym, ap, subst, arith, ◌∙◌}
 use Rattle.std.proofs.lemmas.Bool.{leb-true, leb-false}
 use Rattle.fs_cred.specs.declared.errno.Errno.TheVariants.{ENOSPC}
 use Rattle.fs_cred.specs.declared.refusal.Refusal.{Refusal}
 use Rattle.fs_cred.specs.Credentials.{Credential}
-use Rattle.sector_disk.specs.Disk.{DiskState}
 use Rattle.fs_layout.specs.declared.inode.Inode.{Inode}
 use Rattle.fs_layout.specs.declared.geometry.Geometry.{Geometry}
 use Rattle.fs_layout.specs.declared.version.Version.{Version}
@@ -23,14 +22,15 @@ use Rattle.fs_model.specs.Nodes.{Node, Body, File, Dir, Link, is_directory, is_l
 use Rattle.fs_model.specs.Stands.{room_of}
 use Rattle.fs_model.specs.Trees.{Tree, free_inodes, IsDirectoryAt}
 use Rattle.fs_model.proofs.FreeInodes.{free_are_clear}
-use Rattle.path_walk.specs.Answers.{refused_or, IsAnswered}
+use Rattle.path_walk.specs.Answers.{refused_or}
 use Rattle.path_walk.specs.HeldTrees.{HoldsTree, HasAccess}
-use Rattle.call_parts.proofs.Calling.{met_ok, or_else-none, first_asked, next_asked, both_met, answered_later}
+use Rattle.call_parts.proofs.Calling.{met_ok, or_else-none, both_met}
 use Rattle.path_walk.proofs.HeldNodes.{held_names, held_access}
 use Rattle.path_walk.proofs.Kept.{kept, kept_back}
 use Rattle.call_parts.specs.Makings.{make_asked}
-use Rattle.call_parts.specs.Reaching.{Checked, checked}
+use Rattle.call_parts.specs.Telling.{Checked, checked}
 use Rattle.call_parts.proofs.Followed.{IsAccessed, accessed_is, accessible}
+use Rattle.call_parts.proofs.Refuses.{Refuses, refuses_first, refuses_next}
 use Rattle.call_parts.proofs.Shown.{the_node_is, names_size}
 
 no_link : (b : Body) → is_directory b ≡ true → is_link b ≡ false
@@ -54,21 +54,7 @@ same_test One k size e = same_tests (max_directory_size One) size (max_names One
 same_test Two k size e = same_tests (max_directory_size Two) size (max_names Two) k (λ h. omega (arith, e, h)) (λ h. omega (arith, e, h))
 same_test Three k size e = same_tests (max_directory_size Three) size (max_names Three) k (λ h. omega (arith, e, h)) (λ h. omega (arith, e, h))
 
--- ---- since an earlier moment
-
-pub sectors_later : (p : Geometry) {old mid : TxnState} (new : DiskState) (e : Refusal) → IsUnchanged old mid
-    → IsAnswered mid.disk new (checked (refuse ENOSPC (nat_lt (free_sectors p mid.sectors) least_free))) (Err e)
-    → IsAnswered old.disk new (checked (refuse ENOSPC (nat_lt (free_sectors p old.sectors) least_free))) (Err e)
-sectors_later p {old} {mid} new e same is =
-    kept_back (λ (m : SectorMap). IsAnswered old.disk new (checked (refuse ENOSPC (nat_lt (free_sectors p m) least_free))) (Err e)) same
-    (answered_later {A = Unit {0}} new same is)
-
-pub inodes_later : (p : Geometry) {old mid : TxnState} (new : DiskState) (e : Refusal) → IsUnchanged old mid
-    → IsAnswered mid.disk new (checked (refuse ENOSPC (free_numbers p Inodes mid.sectors == 0))) (Err e)
-    → IsAnswered old.disk new (checked (refuse ENOSPC (free_numbers p Inodes old.sectors == 0))) (Err e)
-inodes_later p {old} {mid} new e same is =
-    kept_back (λ (m : SectorMap). IsAnswered old.disk new (checked (refuse ENOSPC (free_numbers p Inodes m == 0))) (Err e)) same
-    (answered_later {A = Unit {0}} new same is)
+-- ---- the inode of the directory
 
 -- the inode that was asked for is answered
 pub answered_as : (d : Demand) {v w : Inode} → refused_or d (Ok v) ≡ Ok w → w ≡ v
@@ -91,6 +77,12 @@ names_are {p} {map} {t} h dir_ino d =
     let size = names_size (held_names h dir_ino d) in
     ap (refuse ENOSPC) (same_test p.version (length (names_of_body d.node.body)) (inode_at p map dir_ino).size size)
     ∙ sym (ap (λ (u : Node). refuse ENOSPC (nat_le (max_names p.version) (length (names_of_body u.body)))) (the_node_is t dir_ino d.node d.is_there))
+
+-- it has place for none
+pub names_full : {p : Geometry} {map : SectorMap} {t : Tree} → HoldsTree p map t → (dir_ino : ℕ) → IsDirectoryAt t dir_ino → {v : Inode} {e : Refusal} → v ≡ inode_at p map dir_ino
+    → refuse ENOSPC (nat_le (max_directory_size p.version) v.size) ≡ Some e → refuse ENOSPC (nat_le (max_names p.version) (length (names_of_body (the_node t dir_ino).body))) ≡ Some e
+names_full {p} h dir_ino d is full =
+    sym (names_are h dir_ino d) ∙ ap (λ (u : Inode). refuse ENOSPC (nat_le (max_directory_size p.version) u.size)) (sym is) ∙ full
 
 module _ {p : Geometry} {map : SectorMap} {t : Tree} (h : HoldsTree p map t) (dir_ino : ℕ) (d : IsDirectoryAt t dir_ino) (cred : Credential) (step : ℕ) where
   pub dir_access : IsAccessed t dir_ino
@@ -116,29 +108,25 @@ module _ {p : Geometry} {map : SectorMap} {t : Tree} (h : HoldsTree p map t) (di
   inodes_are : refuse ENOSPC (free_numbers p Inodes map == 0) ≡ inodes
   inodes_are = ap (λ (n : ℕ). refuse ENOSPC (n == 0)) (sym (free_are_clear p map t h.holds h.tree))
 
-  module _ {A : Type 0} (x : A) (e : Refusal) (old new : DiskState) where
-    pub make_denied : IsAnswered old new (refused_or allowed (Ok x)) (Err e) → IsAnswered old new (refused_or (first_of (make_asked p map cred t dir_ino step)) (Ok x)) (Err e)
-    make_denied is = first_asked {B = A} allowed (sectors ∷ inodes ∷ names ∷ []) x x e old new is
+  pub denied_refuses : Refuses (permission_on cred t dir_ino write_and_search 1 step) (first_of (make_asked p map cred t dir_ino step))
+  denied_refuses = refuses_first allowed (sectors ∷ inodes ∷ names ∷ [])
 
-    module _ (granted : allowed ≡ None) where
-      pub make_few : IsAnswered old new (checked sectors) (Err e) → IsAnswered old new (refused_or (first_of (make_asked p map cred t dir_ino step)) (Ok x)) (Err e)
-      make_few is = next_asked allowed (sectors ∷ inodes ∷ names ∷ []) x e old new granted (first_asked {B = Unit {0}} sectors (inodes ∷ names ∷ []) tt x e old new is)
+  module _ (granted : allowed ≡ None) where
+    pub few_refuses : Refuses (refuse ENOSPC (nat_lt (free_sectors p map) least_free)) (first_of (make_asked p map cred t dir_ino step))
+    few_refuses = refuses_next allowed (sectors ∷ inodes ∷ names ∷ []) granted (refuses_first sectors (inodes ∷ names ∷ []))
 
-      module _ (enough : sectors ≡ None) where
-        pub make_none : IsAnswered old new (checked (refuse ENOSPC (free_numbers p Inodes map == 0))) (Err e)
-            → IsAnswered old new (refused_or (first_of (make_asked p map cred t dir_ino step)) (Ok x)) (Err e)
-        make_none is =
-            next_asked allowed (sectors ∷ inodes ∷ names ∷ []) x e old new granted
-            (next_asked sectors (inodes ∷ names ∷ []) x e old new enough
-            (first_asked {B = Unit {0}} inodes (names ∷ []) tt x e old new (subst (λ (o : Demand). IsAnswered old new (checked o) (Err e)) inodes_are is)))
+    module _ (enough : sectors ≡ None) where
+      pub none_refuses : Refuses (refuse ENOSPC (free_numbers p Inodes map == 0)) (first_of (make_asked p map cred t dir_ino step))
+      none_refuses =
+          refuses_next allowed (sectors ∷ inodes ∷ names ∷ []) granted
+          (refuses_next sectors (inodes ∷ names ∷ []) enough (λ (e : Refusal) is. refuses_first inodes (names ∷ []) e (sym inodes_are ∙ is)))
 
-        pub make_crowded : inodes ≡ None → checked (refuse ENOSPC (nat_le (max_directory_size p.version) (inode_at p map dir_ino).size)) ≡ Err e
-            → IsAnswered old new (refused_or (first_of (make_asked p map cred t dir_ino step)) (Ok x)) (Err e)
-        make_crowded some is =
-            next_asked allowed (sectors ∷ inodes ∷ names ∷ []) x e old new granted
-            (next_asked sectors (inodes ∷ names ∷ []) x e old new enough
-            (next_asked inodes (names ∷ []) x e old new some
-            (first_asked {B = Unit {0}} names [] tt x e old new (inl (ap checked (sym (names_are h dir_ino d)) ∙ is)))))
+      pub crowded_refuses : inodes ≡ None → {v : Inode} → v ≡ inode_at p map dir_ino
+          → Refuses (refuse ENOSPC (nat_le (max_directory_size p.version) v.size)) (first_of (make_asked p map cred t dir_ino step))
+      crowded_refuses some is =
+          refuses_next allowed (sectors ∷ inodes ∷ names ∷ []) granted
+          (refuses_next sectors (inodes ∷ names ∷ []) enough
+          (refuses_next inodes (names ∷ []) some (λ (e : Refusal) full. refuses_first names [] e (names_full h dir_ino d is full))))
 
   pub make_granted : (v w : Inode) → refused_or allowed (Ok v) ≡ Ok w → allowed ≡ None
   make_granted v w is = (met_ok {A = Inode} allowed v w is).0
@@ -169,3 +157,16 @@ module _ {p : Geometry} {old : TxnState} {t : Tree} (h : HoldsTree p old.sectors
       sym (inodes_are h dir_ino d cred step)
       ∙ kept_back (λ (m : SectorMap). refuse ENOSPC (free_numbers p Inodes m == 0) ≡ None) same
       (met_ok {A = Unit {0}} (refuse ENOSPC (free_numbers p Inodes mid.sectors == 0)) tt tt is).0
+
+  -- where it refuses after reads
+  pub few_later : permission_on cred t dir_ino write_and_search 1 step ≡ None
+      → Refuses (refuse ENOSPC (nat_lt (free_sectors p mid.sectors) least_free)) (first_of (make_asked p old.sectors cred t dir_ino step))
+  few_later granted =
+      kept (λ (m : SectorMap). Refuses (refuse ENOSPC (nat_lt (free_sectors p m) least_free)) (first_of (make_asked p old.sectors cred t dir_ino step))) same
+      (few_refuses h dir_ino d cred step granted)
+
+  pub none_later : permission_on cred t dir_ino write_and_search 1 step ≡ None → refuse ENOSPC (nat_lt (free_sectors p old.sectors) least_free) ≡ None
+      → Refuses (refuse ENOSPC (free_numbers p Inodes mid.sectors == 0)) (first_of (make_asked p old.sectors cred t dir_ino step))
+  none_later granted enough =
+      kept (λ (m : SectorMap). Refuses (refuse ENOSPC (free_numbers p Inodes m == 0)) (first_of (make_asked p old.sectors cred t dir_ino step))) same
+      (none_refuses h dir_ino d cred step granted enough)

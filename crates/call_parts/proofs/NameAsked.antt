@@ -1,9 +1,9 @@
 -- What is asked of a directory that gets a name.
 --     asked_as        of the same caller, after as many lookups
---     dir_denied, dir_granted        write and search
+--     dir_refuses, dir_granted        write and search
 --     room_few, room_crowded, room_met        room for a name
-use Rattle.std.specs.Prelude.{◌≡◌, ℕ, nat_lt, nat_le, [], ◌∷◌, length, None, Result, Ok, Err}
-use Rattle.std.proofs.Common.{sym, ap, subst, ◌∙◌, inl}
+use Rattle.std.specs.Prelude.{◌≡◌, ℕ, nat_lt, nat_le, [], ◌∷◌, length, None, Result, Ok}
+use Rattle.std.proofs.Common.{sym, ap, subst, ◌∙◌}
 use Rattle.sector_disk.specs.Disk.{DiskState}
 use Rattle.fs_cred.specs.declared.errno.Errno.TheVariants.{ENOSPC}
 use Rattle.fs_cred.specs.declared.refusal.Need.TheVariants.{Perm}
@@ -23,12 +23,12 @@ use Rattle.fs_model.specs.Nodes.{names_of_body}
 use Rattle.fs_model.specs.Trees.{Tree, IsDirectoryAt}
 use Rattle.path_walk.specs.Answers.{refused_or, IsAnswered}
 use Rattle.path_walk.specs.HeldTrees.{HoldsTree}
-use Rattle.call_parts.proofs.Calling.{met_ok, or_else-none, first_asked, next_asked, both_met}
+use Rattle.call_parts.proofs.Calling.{met_ok, or_else-none, both_met}
 use Rattle.call_parts.proofs.Followed.{accessed_is}
-use Rattle.call_parts.proofs.Checked.{refused_as}
-use Rattle.call_parts.proofs.MakeAsked.{dir_access, names_are, size_as}
+use Rattle.call_parts.proofs.Refuses.{Refuses, refuses_first, refuses_next}
+use Rattle.call_parts.proofs.MakeAsked.{dir_access, names_are, names_full, size_as}
 use Rattle.call_parts.specs.Makings.{room_asked}
-use Rattle.call_parts.specs.Reaching.{checked}
+use Rattle.call_parts.specs.Telling.{checked}
 
 -- ---- write and search on a directory
 
@@ -49,12 +49,8 @@ module _ {p : Geometry} {map : SectorMap} {t : Tree} (h : HoldsTree p map t) (di
   asked_is : permission_on cred t dir_ino write_and_search walk step ≡ decided walk step (Perm write_and_search) (verdict cred (dir_access h dir_ino d cred step).access write_and_search)
   asked_is = ap (permission_of cred write_and_search walk step) (accessed_is t dir_ino (dir_access h dir_ino d cred step))
 
-  pub dir_denied : {A : Type 0} (x : A) (e : Refusal) (old new : DiskState) → IsAnswered old new decision (Err e)
-      → IsAnswered old new (refused_or (permission_on cred t dir_ino write_and_search walk step) (Ok x)) (Err e)
-  dir_denied {A} x e old new is =
-      let rule = (verdict cred (dir_access h dir_ino d cred step).access write_and_search).rule in
-      refused_as {A = A} {B = Rule} (permission_on cred t dir_ino write_and_search walk step) rule x e old new
-      (subst (λ (o : Demand). IsAnswered old new (refused_or {A = Rule} o (Ok rule)) (Err e)) (sym asked_is) is)
+  pub dir_refuses : Refuses (decided walk step (Perm write_and_search) (verdict cred (dir_access h dir_ino d cred step).access write_and_search)) (permission_on cred t dir_ino write_and_search walk step)
+  dir_refuses e is = asked_is ∙ is
 
   pub dir_granted : (rule : Rule) → decision ≡ Ok rule → permission_on cred t dir_ino write_and_search walk step ≡ None
   dir_granted rule is =
@@ -71,19 +67,15 @@ module _ {p : Geometry} {map : SectorMap} {t : Tree} (h : HoldsTree p map t) (di
   abbrev slots : Demand
   slots = refuse ENOSPC (nat_le (max_names p.version) (length (names_of_body (the_node t dir_ino).body)))
 
-  pub room_few : (e : Refusal) (old new : DiskState) → IsAnswered old new (checked (refuse ENOSPC (nat_lt (free_sectors p map) least_free))) (Err e)
-      → IsAnswered old new (checked (first_of (room_asked p map t dir_ino))) (Err e)
-  room_few e old new is = first_asked {A = Unit {0}} {B = Unit {0}} sectors (slots ∷ []) tt tt e old new is
+  pub room_few : Refuses (refuse ENOSPC (nat_lt (free_sectors p map) least_free)) (first_of (room_asked p map t dir_ino))
+  room_few = refuses_first sectors (slots ∷ [])
 
   module _ (enough : checked (refuse ENOSPC (nat_lt (free_sectors p map) least_free)) ≡ Ok tt) {v : Inode} (is : v ≡ inode_at p map dir_ino) where
     enough_met : sectors ≡ None
     enough_met = (met_ok {A = Unit {0}} sectors tt tt enough).0
 
-    pub room_crowded : (e : Refusal) (old new : DiskState) → checked (refuse ENOSPC (nat_le (max_directory_size p.version) v.size)) ≡ Err e
-        → IsAnswered old new (checked (first_of (room_asked p map t dir_ino))) (Err e)
-    room_crowded e old new full =
-        next_asked {A = Unit {0}} sectors (slots ∷ []) tt e old new enough_met
-        (first_asked {A = Unit {0}} {B = Unit {0}} slots [] tt tt e old new (inl (ap checked (sym (names_are h dir_ino d)) ∙ size_as (max_directory_size p.version) is full)))
+    pub room_crowded : Refuses (refuse ENOSPC (nat_le (max_directory_size p.version) v.size)) (first_of (room_asked p map t dir_ino))
+    room_crowded = refuses_next sectors (slots ∷ []) enough_met (λ (e : Refusal) full. refuses_first slots [] e (names_full h dir_ino d is full))
 
     pub room_met : checked (refuse ENOSPC (nat_le (max_directory_size p.version) v.size)) ≡ Ok tt → checked (first_of (room_asked p map t dir_ino)) ≡ Ok tt
     room_met free =

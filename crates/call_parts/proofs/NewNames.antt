@@ -51,7 +51,8 @@ use Rattle.path_walk.specs.Answers.{refused_or, IsAnswered}
 use Rattle.path_walk.specs.HeldTrees.{HoldsTree}
 use Rattle.call_parts.specs.Paths.{scene_at, HasFound}
 use Rattle.call_parts.specs.Performing.{IsStateOf, Performs}
-use Rattle.call_parts.specs.Reaching.{Checked, checked, WalksPath, HasWalked}
+use Rattle.call_parts.specs.Telling.{Checked, checked}
+use Rattle.call_parts.specs.Reaching.{WalksPath, HasWalked}
 use Rattle.call_parts.proofs.Calling.{state_tree, met_ok, refused_err}
 use Rattle.call_parts.proofs.HeldChanges.{names_held}
 use Rattle.path_walk.proofs.HeldNodes.{is_there, names_say, number_below}

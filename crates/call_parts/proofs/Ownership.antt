@@ -36,7 +36,8 @@ use Rattle.call_parts.specs.Given.{GivesOwner}
 use Rattle.call_parts.proofs.Changed.{IsChange, rewrites_found}
 use Rattle.call_parts.proofs.Removed.{attributes_fit}
 use Rattle.call_parts.proofs.Shown.{the_node_is}
-use Rattle.call_parts.specs.Reaching.{checked, IsInodeFound}
+use Rattle.call_parts.specs.Telling.{checked}
+use Rattle.call_parts.specs.Reaching.{IsInodeFound}
 
 -- ---- demands, some and then others
 

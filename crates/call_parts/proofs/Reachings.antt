@@ -52,7 +52,8 @@ use Rattle.call_parts.specs.Given.{HasBody}
 use Rattle.call_parts.specs.Paths.{scene_at, HasFound}
 use Rattle.call_parts.specs.Performing.{IsStateOf, MayPerform, IsRefused, Performs}
 use Rattle.call_parts.specs.Performing as why
-use Rattle.call_parts.specs.Reaching.{Checked, checked, WalksPath, RefusesWalk, RefusesReach, RefusesOwned, HasWalked, IsInodeFound, HasReached}
+use Rattle.call_parts.specs.Telling.{Checked, checked}
+use Rattle.call_parts.specs.Reaching.{WalksPath, RefusesWalk, RefusesReach, RefusesOwned, HasWalked, IsInodeFound, HasReached}
 use Rattle.call_parts.proofs.ByDescriptor.{still_open}
 use Rattle.call_parts.proofs.ByPath.{refused_performs}
 use Rattle.call_parts.proofs.Calling.{absent_refused, early_is, first_of-append, or_else-none, refused_err, met_ok, resolve_refused, found_firm, found_late, found_after, found_told, found_there, answered_refused, answered_later, first_asked, state_kept, state_tree, same_process, told_performs}

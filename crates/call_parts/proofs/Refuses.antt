@@ -2,23 +2,21 @@
 --     Refuses        where it refuses, the whole does
 --     refuses_first, refuses_next, refuses_some, refuses_others        the whole is a list
 --     passed, passed_later, refused_by, broken        an answer is passed on as that of the whole
---     fails_later        a fault is
 --     demand_met, answered_ok, tree_kept        what is known where nothing refuses, and after reads
-use Rattle.std.specs.Prelude.{◌≡◌, List, ◌∷◌, ◌++◌, None, Some, IsErr, IsErrAnd, IfErr, Result, Ok, Err}
+use Rattle.std.specs.Prelude.{◌≡◌, List, ◌∷◌, ◌++◌, None, Some, IsErr, IsErrAnd, Result, Ok, Err}
 use Rattle.std.proofs.Common.{ap, ◌∙◌, inl, inr}
 use Rattle.sector_disk.specs.Disk.{DiskState}
 use Rattle.fs_cred.specs.declared.refusal.Refusal.{Refusal}
 use Rattle.fs_layout.specs.declared.geometry.Geometry.{Geometry}
 use Rattle.fs_layout.specs.Bytes.{SectorMap}
-use Rattle.sector_disk.proofs.Moments.{failed_later}
-use Rattle.sector_txn.specs.Sectors.{TxnState, IsUnchanged, SameStore}
+use Rattle.sector_txn.specs.Sectors.{TxnState, IsUnchanged}
 use Rattle.fs_model.specs.Demands.{Demand, or_else, first_of}
 use Rattle.fs_model.specs.Trees.{Tree}
-use Rattle.path_walk.specs.Answers.{refused_or, FailsToRead, Interrupts, IsAnswered}
+use Rattle.path_walk.specs.Answers.{refused_or, Interrupts, IsAnswered}
 use Rattle.path_walk.specs.HeldTrees.{HoldsTree}
-use Rattle.path_walk.proofs.Kept.{kept, answered_err, failed_with}
+use Rattle.path_walk.proofs.Kept.{kept, answered_err}
 use Rattle.call_parts.proofs.Calling.{first_of-append, refused_err, met_ok, answered_later}
-use Rattle.call_parts.specs.Reaching.{checked}
+use Rattle.call_parts.specs.Telling.{checked}
 
 abbrev pub Refuses : Demand → Demand → Type 0
 Refuses d whole = (e : Refusal) → d ≡ Some e → whole ≡ Some e
@@ -59,12 +57,6 @@ passed_later {A} {B} {d} {whole} {old} {mid} new x r e err same refuses y h =
 pub broken : {A : Type 0} (old new : DiskState) (right r : Result A Refusal) (e : Refusal) → IsErr r × IsErrAnd r (λ z. z ≡ e) → Interrupts old new e
     → IsAnswered old new right r
 broken old new right r e err way = answered_err old new right r e err.0 err.1 (inr way)
-
--- a fault, since before another change
-pub fails_later : {A : Type 0} {old mid : TxnState} (new : DiskState) (r : Result A Refusal) (e : Refusal) → IsErr r × IsErrAnd r (λ z. z ≡ e) → SameStore old mid
-    → FailsToRead mid.disk new e → IfErr r (FailsToRead old.disk new)
-fails_later {A} {old} {mid} new r e err same fault =
-    failed_with r e (FailsToRead old.disk new) err.0 err.1 (fault.0, failed_later old.disk mid.disk new same.reads.failures fault.1)
 
 -- ---- where nothing refuses
 

@@ -1,6 +1,6 @@
 -- A name that goes from its directory, and what has a name less.
 --     touches_after, names_changed        a change of one inode, since before a read
---     taken_after, taken_joined        how many sectors were put
+--     taken_after, taken_none, taken_joined        how many sectors were put
 --     name_removed, not_removed        what dir_core promises of a name that goes
 --     attributes_fit, counted_fits        other attributes fit an inode
 use Rattle.std.specs.Prelude.{◌≡◌, ◌≢◌, ℕ, ◌+◌, ◌<◌, ◌≤◌, List, None, ◌^◌}
@@ -66,6 +66,13 @@ taken_after p more {old} {mid} new same taken =
     let room = same.room in
     let lacks = lacking_less old mid (λ k has. same.delta k ∙ has) (bitmaps p) in
     omega (arith, taken, room, lacks)
+
+-- reads put nothing
+pub taken_none : (p : Geometry) (more : ℕ) {old new : TxnState} → IsUnchanged old new → TakesSpare p more old new
+taken_none p more {old} {new} same =
+    let room = same.room in
+    let lacks = lacking_less old new (λ k has. same.delta k ∙ has) (bitmaps p) in
+    omega (arith, room, lacks)
 
 -- by one call after another
 pub taken_joined : (p : Geometry) (first then more : ℕ) (old mid new : TxnState) → first + then ≤ more → TakesSpare p first old mid → TakesSpare p then mid new

@@ -4,8 +4,9 @@
 --     GivesOwner        another owner and group
 --     special_mode, SavesAcl        another mode or access ACL
 --     SavesDefaultAcl        another default ACL
+--     SavesOf        an ACL of either type
 --     size_shown, HasBody        what a call shows of an inode
-use Rattle.std.specs.Prelude.{◌≡◌, ℕ, ◌+◌, ◌/◌, ◌%◌, ◌==◌, ◌<◌, ◌^◌, ◌&&◌, ◌*◌, cond, if◌then◌else◌, List, Option, IsFalse}
+use Rattle.std.specs.Prelude.{◌≡◌, ℕ, ◌+◌, ◌/◌, ◌%◌, ◌==◌, ◌<◌, ◌^◌, ◌&&◌, ◌*◌, cond, if◌then◌else◌, List, Option, Some, IsFalse}
 use Rattle.posix_acl.specs.AccessList.{AccessList}
 use Rattle.fs_cred.specs.Credentials.{Credential}
 use Rattle.fs_cred.specs.Ownership.{keeps_set_group_id}
@@ -21,6 +22,8 @@ use Rattle.fs_layout.specs.InodeChanges.{ChangesInode}
 use Rattle.fs_layout.specs.Directories.{HasNames}
 use Rattle.fs_layout.specs.Images.{bit, inode_at}
 use Rattle.fs_layout.specs.declared.inode.Inode.{Inode}
+use Rattle.fs_model.specs.declared.call.AclType.{AclType}
+use Rattle.fs_model.specs.declared.call.AclType.TheVariants.{Access, Default}
 use Rattle.fs_model.specs.Nodes.{Body, is_link, shown_mode}
 use Rattle.fs_model.specs.Rules.{is_directory_kind}
 use Rattle.fs_model.specs.StoredNodes.{HoldsBody}
@@ -72,6 +75,11 @@ pub record SavesDefaultAcl (p : Geometry) (n : ℕ) (a : Option AccessList) (old
   pub bytes : KeepsBytes old new (inode_at p old n) (inode_at p new n)
   pub access : KeepsAccess old new (inode_at p old n) (inode_at p new n)
   pub default : HasDefaultAcl new (inode_at p new n) a
+
+-- inode n has this ACL of this type
+pub record SavesOf (which : AclType) (p : Geometry) (n m : ℕ) (acl : Option AccessList) (old new : SectorMap) : Type 0 where
+  pub access : which ≡ Access → (a : AccessList) → acl ≡ Some a → SavesAcl p n m a old new
+  pub default : which ≡ Default → SavesDefaultAcl p n acl old new
 
 -- the size that is shown of an inode: of a directory as many bytes for each slot as the smallest slot has
 abbrev pub size_shown : Version → Inode → ℕ

@@ -10,3 +10,6 @@ pub mod NewNodes
 pub mod TwoPaths
 pub mod Reaching
 pub mod Times
+pub mod Telling
+pub mod Altering
+pub mod Space

@@ -7,7 +7,7 @@
 --     WalksBoth, RefusesBoth, HasWalkedBoth        the same of a call by two paths
 --     bad_for, opens_for        what a descriptor has to be open for, and what an open file is open for
 --     ActsOn, IsNotOpen, RefusesOpen, IsOpened, IsOpenFor, HasOpened        the same of a call by a descriptor
-use Rattle.std.specs.Prelude.{◌≡◌, ℕ, Bool, true, List, ◌∷◌, None, Some, IsTrue, Result, Ok}
+use Rattle.std.specs.Prelude.{◌≡◌, ℕ, Bool, true, List, ◌∷◌, None, Some, IsTrue, Ok}
 use Rattle.std.specs.Ordering.{nat_cmp}
 use Rattle.sector_disk.specs.Disk.{DiskState}
 use Rattle.fs_cred.specs.declared.refusal.Refusal.{Refusal}
@@ -28,20 +28,13 @@ use Rattle.fs_model.specs.Scenes.{Scene, Effect, by_path, by_two_paths, by_descr
 use Rattle.fs_model.specs.States.{State}
 use Rattle.fs_model.specs.Steps.{asks_in_call, firm_refusal}
 use Rattle.open_files.specs.Tables.{IsTable}
-use Rattle.path_walk.specs.Answers.{refused_or}
 use Rattle.call_parts.specs.declared.reaching.OpenFor.{OpenFor}
 use Rattle.call_parts.specs.declared.reaching.OpenFor.TheVariants.{Anything, Reading, Writing}
 use Rattle.call_parts.specs.Asked.{own_asked}
+use Rattle.call_parts.specs.Telling.{Checked, checked}
 use Rattle.call_parts.specs.Paths.{HasFound}
 use Rattle.call_parts.specs.TwoPaths.{HasFoundBoth}
 use Rattle.call_parts.specs.Performing.{IsStateOf, MayPerform, IsRefused}
-
--- what the checks of a call's arguments answer
-abbrev pub Checked : Type 0
-Checked = Result (Unit {0}) Refusal
-
-abbrev pub checked : Demand → Checked
-checked d = refused_or {A = Unit {0}} d (Ok tt)
 
 -- A call walks this path so, after its arguments, whose checks answer this. Then it asks these demands of what is found.
 pub record WalksPath (call : Call) (checks : Checked) (form : Form) (path : List ℕ) (demands : Scene → List Demand) (effect : Scene → ℕ → Effect) : Type 0 where

@@ -2,10 +2,12 @@
 --     with_times, SavesTimes        an inode with other times; it was saved so
 --     AreBelow        inode numbers
 --     kept_touches        of these touches those that a disk keeps
---     MayMoveTimes, MovesTimes        what is asked before; whatever tree stands there, these times of it have moved
+--     MovesTime        whatever tree stands there, these times of one inode have moved
+--     MayMoveTimes, MovesTimes        what is asked before; and of several inodes
 use Rattle.std.specs.Prelude.{◌≡◌, ℕ, ◌<◌, List, [], ◌∷◌, length, if◌then◌else◌}
 use Rattle.fs_layout.specs.declared.inode.Inode.{Inode}
 use Rattle.fs_layout.specs.declared.geometry.Geometry.{Geometry}
+use Rattle.fs_layout.specs.Bytes.{SectorMap}
 use Rattle.fs_layout.specs.Images.{bit, inode_at}
 use Rattle.fs_layout.specs.Version.{keeps_times}
 use Rattle.sector_txn.specs.Sectors.{TxnState, SameStore}
@@ -15,7 +17,7 @@ use Rattle.fs_model.specs.declared.reply.Stamps.{Stamps}
 use Rattle.fs_model.specs.declared.touch.Touch.{Touch}
 use Rattle.fs_model.specs.Stands.{HoldsAll, placed}
 use Rattle.fs_model.specs.StoredStamps.{stamps_in}
-use Rattle.fs_model.specs.TreeChanges.{touch_at, touched}
+use Rattle.fs_model.specs.TreeChanges.{touch_at, touch_one, restamped, touched}
 use Rattle.fs_model.specs.Trees.{Tree}
 
 abbrev pub with_times : Inode → Stamps → Inode
@@ -37,6 +39,11 @@ AreBelow inodes (e ∷ es) = (e.0 < inodes) × AreBelow inodes es
 -- all, or none where the disk keeps no times
 abbrev pub kept_touches : Geometry → List (ℕ × Touch) → List (ℕ × Touch)
 kept_touches p touches = if keeps_times p.version then touches else []
+
+-- of inode n, if it is used
+pub record MovesTime (p : Geometry) (time n : ℕ) (touch : Touch) (old new : SectorMap) : Type 0 where
+  pub super : new 0 ≡ old 0
+  pub held : (t : Tree) → HoldsAll p old (placed t) → HoldsAll p new (placed (restamped (touch_one time (n, touch)) t))
 
 -- each is of an inode, and may put its sector
 pub record MayMoveTimes (p : Geometry) (touches : List (ℕ × Touch)) (txn : TxnState) : Type 0 where

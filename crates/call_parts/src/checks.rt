@@ -1,18 +1,15 @@
 //! What calls ask, one check for each.
 
 ghost use Rattle.std.specs.Prelude.{◌≡◌, ◌-◌, Ok, ◌<◌, ◌&&◌, not};
-ghost use Rattle.sector_txn.specs.Sectors.{IsUnchanged};
-ghost use Rattle.bit_alloc.specs.Inodes.{IsSound};
-ghost use Rattle.inode_table.specs.Inodes.{IsInodeOf};
 ghost use Rattle.fs_cred.specs.declared.refusal.Need.TheVariants.{Perm};
 ghost use Rattle.fs_cred.specs.Verdicts.{verdict};
 ghost use Rattle.fs_model.specs.Demands.{allowed_by, decided, refuse};
-ghost use Rattle.path_walk.specs.Answers.{refused_or, IsAnswered};
+ghost use Rattle.path_walk.specs.Answers.{refused_or};
 ghost use Rattle.path_walk.specs.HeldTrees.{HasAccess};
 ghost use Rattle.fs_model.specs.Scenes.{check_of_mode};
 ghost use Rattle.fs_model.specs.Rules.{is_directory_kind};
-ghost use Rattle.fs_cred.specs.declared.node.Node.{Node as AccessNode};
 ghost use Rattle.call_parts.specs.Asked.{sticky_asked};
+ghost use Rattle.call_parts.specs.Telling.{checked, ShowsInode, TellsOf};
 
 use crate::caller::Caller;
 use fs_cred::{Cred, Denial, Errno, Need, Refusal, Rule, sticky_allows};
@@ -32,7 +29,7 @@ pub const WRITE_AND_SEARCH: Perms = Perms {
 
 /// Refuses with this error, where that is so.
 pub fn refuse_if(errno: Errno, so: bool) -> Result<(), Refusal>
-    ensures { result ≡ refused_or (refuse errno so) (Ok tt) }
+    ensures { result ≡ checked (refuse errno so) }
 {
     if so {
         return Err(Refusal::Failed(errno));
@@ -42,7 +39,7 @@ pub fn refuse_if(errno: Errno, so: bool) -> Result<(), Refusal>
 
 /// Whether these are bits of a mode. EINVAL: there are more bits than 07777.
 pub fn check_mode(mode: u16) -> Result<(), Refusal>
-    ensures { result ≡ refused_or (check_of_mode mode) (Ok tt) }
+    ensures { result ≡ checked (check_of_mode mode) }
 {
     refuse_if(Errno::EINVAL, mode > 0o7777)
 }
@@ -58,14 +55,10 @@ pub fn permitted<S: Sectors>(
     walk: u8,
     step: usize,
 ) -> Result<Rule, Refusal>
-    requires sound { IsSound caller.now.geometry (S.state s.old) }
-    requires there { IsInodeOf caller.now.geometry (S.state s.old).sectors inode.now }
-    requires has { (node : AccessNode) × HasAccess (S.state s.old).sectors inode.now node }
-    ensures each { (node : AccessNode) → HasAccess (S.state s.old).sectors inode.now node
-        → IsAnswered (S.state s.old).disk (S.state s.new).disk
-        (refused_or (decided walk step (Perm want) (verdict cred.now node want))
-        (Ok (verdict cred.now node want).rule)) result }
-    ensures same { IsUnchanged (S.state s.old) (S.state s.new) }
+    requires { ShowsInode caller.now.geometry (S.state s.old) inode.now HasAccess }
+    ensures { TellsOf (HasAccess (S.state s.old).sectors inode.now)
+        (λ node. refused_or (decided walk step (Perm want) (verdict cred.now node want)) (Ok (verdict cred.now node want).rule))
+        (S.state s.old) (S.state s.new) result }
 {
     let verdict = permission(caller.alloc, s, caller.geometry, cred, inode, want)?;
     if !verdict.yes {
@@ -81,14 +74,14 @@ pub fn allowed_by(
     need: Need,
     answer: Result<(), Rule>,
 ) -> Result<(), Refusal>
-    ensures { result ≡ refused_or (allowed_by walk step need answer) (Ok tt) }
+    ensures { result ≡ checked (allowed_by walk step need answer) }
 {
     answer.map_err(|rule| Refusal::Denied(Denial::new(walk, step, need, rule)))
 }
 
 /// Refuses a directory. EISDIR: it is one.
 pub fn check_no_directory(kind: Kind) -> Result<(), Refusal>
-    ensures { result ≡ refused_or (refuse Errno.EISDIR (is_directory_kind kind)) (Ok tt) }
+    ensures { result ≡ checked (refuse Errno.EISDIR (is_directory_kind kind)) }
 {
     if kind == Kind::Directory {
         return Err(Refusal::Failed(Errno::EISDIR));
@@ -98,7 +91,7 @@ pub fn check_no_directory(kind: Kind) -> Result<(), Refusal>
 
 /// Refuses what is no directory. ENOTDIR: it is none.
 pub fn check_is_directory(kind: Kind) -> Result<(), Refusal>
-    ensures { result ≡ refused_or (refuse Errno.ENOTDIR (not (is_directory_kind kind))) (Ok tt) }
+    ensures { result ≡ checked (refuse Errno.ENOTDIR (not (is_directory_kind kind))) }
 {
     if kind != Kind::Directory {
         return Err(Refusal::Failed(Errno::ENOTDIR));
@@ -108,7 +101,7 @@ pub fn check_is_directory(kind: Kind) -> Result<(), Refusal>
 
 /// Asks whether what is no directory was named with a slash.
 pub fn check_slash(found: &Found, kind: Kind) -> Result<(), Refusal>
-    ensures { result ≡ refused_or (refuse Errno.ENOTDIR (found.now.slash && not (is_directory_kind kind))) (Ok tt) }
+    ensures { result ≡ checked (refuse Errno.ENOTDIR (found.now.slash && not (is_directory_kind kind))) }
 {
     if found.slash && kind != Kind::Directory {
         return Err(Refusal::Failed(Errno::ENOTDIR));
@@ -125,7 +118,7 @@ pub fn check_sticky(
     inode: &Inode,
     walk: u8,
 ) -> Result<(), Refusal>
-    ensures { result ≡ refused_or (sticky_asked process.now.cred directory.now inode.now walk (found.now.step - 1)) (Ok tt) }
+    ensures { result ≡ checked (sticky_asked process.now.cred directory.now inode.now walk (found.now.step - 1)) }
 {
     let cred = process.cred();
     let step = found.step.saturating_sub(1);

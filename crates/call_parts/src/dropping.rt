@@ -1,7 +1,7 @@
 //! Names of an inode, counted, and what becomes of one that nothing names and nobody has open: POSIX.1-2017, unlink() and
 //! close().
 
-ghost use Rattle.std.specs.Prelude.{◌≡◌, ◌≢◌, OnOk, IfErr, ◌<◌};
+ghost use Rattle.std.specs.Prelude.{◌≢◌, OnOk, IfErr};
 ghost use Rattle.fs_layout.specs.Images.{inode_at};
 ghost use Rattle.sector_txn.specs.Sectors.{SameStore};
 ghost use Rattle.bit_alloc.specs.declared.bitmap.Bitmap.TheVariants.{Inodes};
@@ -9,6 +9,7 @@ ghost use Rattle.bit_alloc.specs.Bitmaps.{IsNumber};
 ghost use Rattle.bit_alloc.specs.Inodes.{IsSound};
 ghost use Rattle.bit_alloc.specs.Room.{HasSpare};
 ghost use Rattle.path_walk.specs.Answers.{FailsToRead};
+ghost use Rattle.call_parts.specs.Altering.{MayAlter, Alters};
 ghost use Rattle.call_parts.specs.Dropping.{Drops, LeavesInode, Counts};
 ghost use Rattle.call_parts.specs.UsedInode.{IsUsedInode};
 
@@ -22,13 +23,10 @@ use sector_txn::Sectors;
 /// Frees inode `ino`, which nothing names and nobody has open: a file or a directory with its bytes and ACLs, a link
 /// with its target. EIO: the disk has failed.
 pub fn drop_node<S: Sectors>(s: &mut S, geometry: Geometry, ino: u32) -> Result<(), Refusal>
-    requires sound { IsSound geometry (S.state s.old) }
+    requires ready { MayAlter geometry 1 (S.state s.old) }
     requires number { IsNumber geometry Inodes ino }
     requires used { (inode_at geometry (S.state s.old).sectors ino).kind ≢ Kind.Free }
-    requires spare { HasSpare geometry 1 (S.state s.old) }
-    ensures store { SameStore (S.state s.old) (S.state s.new) }
-    ensures drops { OnOk result (Drops geometry ino (S.state s.old) (S.state s.new)) }
-    ensures fault { IfErr result (FailsToRead (S.state s.old).disk (S.state s.new).disk) }
+    ensures { Alters (Drops geometry ino) (S.state s.old) (S.state s.new) result }
 {
     match free_all(s, geometry, ino) {
         Ok(()) => Ok(()),
@@ -75,9 +73,7 @@ pub fn set_names<S: Sectors>(
 ) -> Result<(), Refusal>
     requires loaded { IsUsedInode geometry (S.state s.old) ino inode.now }
     requires spare { HasSpare geometry 1 (S.state s.old) }
-    ensures store { SameStore (S.state s.old) (S.state s.new) }
-    ensures counts { OnOk result (Counts geometry ino names (S.state s.old) (S.state s.new)) }
-    ensures fault { IfErr result (FailsToRead (S.state s.old).disk (S.state s.new).disk) }
+    ensures { Alters (Counts geometry ino names) (S.state s.old) (S.state s.new) result }
 {
     let counted = Inode { names, ..*inode };
     match save(s, geometry, ino, &counted) {

@@ -1,20 +1,17 @@
 //! What is asked of a directory before something is made in it, and what that gets of it.
 
-ghost use Rattle.std.specs.Prelude.{◌≡◌, ◌-◌, ◌/◌, ◌%◌, ◌==◌, nat_le, if◌then◌else◌, Option, None, Ok, option_copied, IfOk, IfErr};
-ghost use Rattle.posix_acl.specs.AccessList.{AccessList, minimal};
+ghost use Rattle.std.specs.Prelude.{◌≡◌, ◌-◌, ◌/◌, ◌%◌, ◌==◌, nat_le, if◌then◌else◌, Ok, option_copied, IfOk, IfErr};
+ghost use Rattle.posix_acl.specs.AccessList.{minimal};
 ghost use Rattle.fs_layout.specs.Version.{max_directory_size};
 ghost use Rattle.fs_layout.specs.declared.inode.TheConstants.{S_ISGID};
 ghost use Rattle.fs_layout.specs.Images.{inode_at};
-ghost use Rattle.sector_txn.specs.Sectors.{IsUnchanged};
-ghost use Rattle.bit_alloc.specs.Inodes.{IsSound};
 ghost use Rattle.inode_table.specs.Acls.{HasDefaultAcl};
-ghost use Rattle.inode_table.specs.Inodes.{IsInodeOf};
 ghost use Rattle.fs_model.specs.Births.{without_perms, masked_acl, born_acl};
 ghost use Rattle.fs_model.specs.Demands.{refuse, first_of, permission_on, write_and_search};
-ghost use Rattle.fs_model.specs.Trees.{Tree, IsDirectoryAt};
-ghost use Rattle.path_walk.specs.Answers.{refused_or, Interrupts, IsAnswered};
-ghost use Rattle.path_walk.specs.HeldTrees.{HoldsTree};
+ghost use Rattle.fs_model.specs.Trees.{IsDirectoryAt};
+ghost use Rattle.path_walk.specs.Answers.{refused_or};
 ghost use Rattle.call_parts.specs.Makings.{make_asked};
+ghost use Rattle.call_parts.specs.Telling.{checked, ShowsTree, ShowsInode, TellsTree, ReadsInode};
 
 use crate::caller::Caller;
 use crate::checks::{WRITE_AND_SEARCH, permitted, refuse_if};
@@ -31,7 +28,7 @@ use std::alloc::Global;
 
 /// Asks whether a directory has place for one more slot. ENOSPC: it has none.
 pub(crate) fn check_names(geometry: Geometry, directory: &Inode) -> Result<(), Refusal>
-    ensures { result ≡ refused_or (refuse Errno.ENOSPC (nat_le (max_directory_size geometry.version) directory.now.size)) (Ok tt) }
+    ensures { result ≡ checked (refuse Errno.ENOSPC (nat_le (max_directory_size geometry.version) directory.now.size)) }
 {
     let most = geometry.version.max_directory_size();
     refuse_if(Errno::ENOSPC, directory.size >= most)
@@ -47,13 +44,10 @@ fn ask_in_directory<S: Sectors>(
     walk: u8,
     step: usize,
 ) -> Result<Inode, Refusal>
-    requires sound { IsSound caller.now.geometry (S.state s.old) }
-    requires there { (t : Tree) × HoldsTree caller.now.geometry (S.state s.old).sectors t × IsDirectoryAt t dir_ino }
-    ensures each { (t : Tree) → HoldsTree caller.now.geometry (S.state s.old).sectors t → IsDirectoryAt t dir_ino
-        → IsAnswered (S.state s.old).disk (S.state s.new).disk
-        (refused_or (permission_on cred.now t dir_ino write_and_search walk step)
-        (Ok (inode_at caller.now.geometry (S.state s.old).sectors dir_ino))) result }
-    ensures same { IsUnchanged (S.state s.old) (S.state s.new) }
+    requires { ShowsTree caller.now.geometry (S.state s.old) (λ t. IsDirectoryAt t dir_ino) }
+    ensures { TellsTree caller.now.geometry (λ t. IsDirectoryAt t dir_ino)
+        (λ t. refused_or (permission_on cred.now t dir_ino write_and_search walk step)
+        (Ok (inode_at caller.now.geometry (S.state s.old).sectors dir_ino))) (S.state s.old) (S.state s.new) result }
 {
     let directory = load_inode(s, caller.geometry, dir_ino)?;
     permitted(s, caller, cred, &directory, WRITE_AND_SEARCH, walk, step)?;
@@ -68,13 +62,10 @@ pub fn ask_directory<S: Sectors>(
     found: &Found,
     walk: u8,
 ) -> Result<Inode, Refusal>
-    requires sound { IsSound caller.now.geometry (S.state s.old) }
-    requires there { (t : Tree) × HoldsTree caller.now.geometry (S.state s.old).sectors t × IsDirectoryAt t found.now.dir_ino }
-    ensures each { (t : Tree) → HoldsTree caller.now.geometry (S.state s.old).sectors t → IsDirectoryAt t found.now.dir_ino
-        → IsAnswered (S.state s.old).disk (S.state s.new).disk
-        (refused_or (permission_on process.now.cred t found.now.dir_ino write_and_search walk (found.now.step - 1))
-        (Ok (inode_at caller.now.geometry (S.state s.old).sectors found.now.dir_ino))) result }
-    ensures same { IsUnchanged (S.state s.old) (S.state s.new) }
+    requires { ShowsTree caller.now.geometry (S.state s.old) (λ t. IsDirectoryAt t found.now.dir_ino) }
+    ensures { TellsTree caller.now.geometry (λ t. IsDirectoryAt t found.now.dir_ino)
+        (λ t. refused_or (permission_on process.now.cred t found.now.dir_ino write_and_search walk (found.now.step - 1))
+        (Ok (inode_at caller.now.geometry (S.state s.old).sectors found.now.dir_ino))) (S.state s.old) (S.state s.new) result }
 {
     let cred = process.cred();
     let step = found.step.saturating_sub(1);
@@ -90,13 +81,10 @@ pub fn check_make<S: Sectors>(
     dir_ino: u32,
     step: usize,
 ) -> Result<Inode, Refusal>
-    requires sound { IsSound caller.now.geometry (S.state s.old) }
-    requires there { (t : Tree) × HoldsTree caller.now.geometry (S.state s.old).sectors t × IsDirectoryAt t dir_ino }
-    ensures each { (t : Tree) → HoldsTree caller.now.geometry (S.state s.old).sectors t → IsDirectoryAt t dir_ino
-        → IsAnswered (S.state s.old).disk (S.state s.new).disk
-        (refused_or (first_of (make_asked caller.now.geometry (S.state s.old).sectors cred.now t dir_ino step))
-        (Ok (inode_at caller.now.geometry (S.state s.old).sectors dir_ino))) result }
-    ensures same { IsUnchanged (S.state s.old) (S.state s.new) }
+    requires { ShowsTree caller.now.geometry (S.state s.old) (λ t. IsDirectoryAt t dir_ino) }
+    ensures { TellsTree caller.now.geometry (λ t. IsDirectoryAt t dir_ino)
+        (λ t. refused_or (first_of (make_asked caller.now.geometry (S.state s.old).sectors cred.now t dir_ino step))
+        (Ok (inode_at caller.now.geometry (S.state s.old).sectors dir_ino))) (S.state s.old) (S.state s.new) result }
 {
     let directory = ask_in_directory(s, caller, cred, dir_ino, 1, step)?;
     ask_for_sectors(s, caller.geometry)?;
@@ -152,13 +140,8 @@ pub fn default_of<S: Sectors>(
     caller: &Caller,
     directory: &Inode,
 ) -> Result<Option<Acl>, Refusal>
-    requires sound { IsSound caller.now.geometry (S.state s.old) }
-    requires there { IsInodeOf caller.now.geometry (S.state s.old).sectors directory.now }
-    requires has { (a : Option AccessList) × HasDefaultAcl (S.state s.old).sectors directory.now a }
-    ensures found { IfOk result (λ acl. (a : Option AccessList) → HasDefaultAcl (S.state s.old).sectors directory.now a
-        → acl ≡ a) }
-    ensures err { IfErr result (Interrupts (S.state s.old).disk (S.state s.new).disk) }
-    ensures same { IsUnchanged (S.state s.old) (S.state s.new) }
+    requires { ShowsInode caller.now.geometry (S.state s.old) directory.now HasDefaultAcl }
+    ensures { ReadsInode directory.now HasDefaultAcl (λ acl. acl) (S.state s.old) (S.state s.new) result }
 {
     match load_default_acl(caller.alloc, s, caller.geometry, directory) {
         Ok(default) => Ok(default),

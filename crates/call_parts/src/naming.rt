@@ -1,21 +1,22 @@
 //! Names in directories: what they lead to, new ones, and those that go.
 
-ghost use Rattle.std.specs.Prelude.{ℕ, ◌≡◌, ◌<◌, ◌||◌, not, None, Some, Ok, Err, OnOk, IfOk, IfErr};
+ghost use Rattle.std.specs.Prelude.{ℕ, ◌≡◌, ◌<◌, ◌||◌, not, None, Some, Err, IfOk};
 ghost use Rattle.fs_layout.specs.Bytes.{IsBytes};
 ghost use Rattle.fs_layout.specs.Images.{inode_at};
-ghost use Rattle.sector_txn.specs.Sectors.{SameStore, IsUnchanged};
+ghost use Rattle.sector_txn.specs.Sectors.{IsUnchanged};
 ghost use Rattle.bit_alloc.specs.Inodes.{IsSound};
-ghost use Rattle.bit_alloc.specs.Room.{HasSpare, TakesSpare};
 ghost use Rattle.bit_alloc.specs.Bitmaps.{HasBitmaps};
 ghost use Rattle.fs_model.specs.Demands.{first_of};
 ghost use Rattle.fs_model.specs.Scenes.{is_found, is_special};
 ghost use Rattle.fs_model.specs.Trees.{Tree, IsDirectoryAt};
-ghost use Rattle.path_walk.specs.Answers.{refused_or, FailsToRead, IsAnswered};
+ghost use Rattle.path_walk.specs.Answers.{IsAnswered};
 ghost use Rattle.path_walk.specs.HeldTrees.{HoldsTree, IsThere};
 ghost use Rattle.path_walk.specs.SoundInodes.{HasSoundInodes};
 ghost use Rattle.fs_model.specs.Stands.{room_of};
+ghost use Rattle.call_parts.specs.Altering.{MayAlter, AltersDisk, Alters};
 ghost use Rattle.call_parts.specs.Makings.{room_asked};
 ghost use Rattle.call_parts.specs.NewNodes.{HasName, MayBeNamed, NamesInode};
+ghost use Rattle.call_parts.specs.Telling.{checked};
 ghost use Rattle.call_parts.specs.TwoPaths.{both_checks, walks_of};
 ghost use Rattle.call_parts.specs.Dropping.{RemovesName};
 
@@ -85,7 +86,7 @@ pub fn ask_for_name<S: Sectors>(
     ensures each { (t : Tree) (dir_ino : ℕ) → HoldsTree geometry (S.state s.old).sectors t → IsDirectoryAt t dir_ino
         → directory.now ≡ inode_at geometry (S.state s.old).sectors dir_ino
         → IsAnswered (S.state s.old).disk (S.state s.new).disk
-        (refused_or (first_of (room_asked geometry (S.state s.old).sectors t dir_ino)) (Ok tt)) result }
+        (checked (first_of (room_asked geometry (S.state s.old).sectors t dir_ino))) result }
     ensures same { IsUnchanged (S.state s.old) (S.state s.new) }
 {
     ask_for_sectors(s, geometry)?;
@@ -102,15 +103,10 @@ pub fn name_inode<S: Sectors>(
     name: &[u8],
     ino: u32,
 ) -> Result<(), Refusal>
-    requires sound { IsSound geometry (S.state s.old) }
+    requires ready { MayAlter geometry 4 (S.state s.old) }
     requires inode { directory ≡ inode_at geometry (S.state s.old).sectors dir_ino }
     requires room { MayBeNamed geometry (S.state s.old).sectors dir_ino name.now }
-    requires spare { HasSpare geometry 4 (S.state s.old) }
-    ensures store { SameStore (S.state s.old) (S.state s.new) }
-    ensures sound { OnOk result (IsSound geometry (S.state s.new)) }
-    ensures taken { OnOk result (TakesSpare geometry 4 (S.state s.old) (S.state s.new)) }
-    ensures named { OnOk result (NamesInode geometry dir_ino name.now ino (S.state s.old).sectors (S.state s.new).sectors) }
-    ensures err { IfErr result (FailsToRead (S.state s.old).disk (S.state s.new).disk) }
+    ensures { AltersDisk geometry 4 (λ done. NamesInode geometry dir_ino name.now ino) (S.state s.old) (S.state s.new) result }
 {
     let mut directory = directory;
     match insert_new(s, geometry, dir_ino, &mut directory, name, ino) {
@@ -126,13 +122,10 @@ pub fn remove_name<S: Sectors>(
     dir_ino: u32,
     name: &[u8],
 ) -> Result<(), Refusal>
-    requires sound { IsSound geometry (S.state s.old) }
+    requires ready { MayAlter geometry 5 (S.state s.old) }
     requires below { dir_ino < geometry.inodes }
     requires named { HasName geometry (S.state s.old).sectors dir_ino name.now }
-    requires spare { HasSpare geometry 5 (S.state s.old) }
-    ensures store { SameStore (S.state s.old) (S.state s.new) }
-    ensures removes { OnOk result (RemovesName geometry dir_ino name.now (S.state s.old) (S.state s.new)) }
-    ensures fault { IfErr result (FailsToRead (S.state s.old).disk (S.state s.new).disk) }
+    ensures { Alters (RemovesName geometry dir_ino name.now) (S.state s.old) (S.state s.new) result }
 {
     let mut directory = load_inode(s, geometry, dir_ino)?;
     match remove(s, geometry, dir_ino, &mut directory, name) {

@@ -1,14 +1,14 @@
 //! The space that a call asks for before it takes any.
 
-ghost use Rattle.std.specs.Prelude.{◌≡◌, ◌<◌, ◌⊎◌, ◌==◌, nat_lt, Ok, IfErr};
+ghost use Rattle.std.specs.Prelude.{◌≡◌, ◌==◌};
 ghost use Rattle.fs_layout.specs.Images.{free_sectors};
-ghost use Rattle.sector_txn.specs.Sectors.{IsUnchanged};
 ghost use Rattle.bit_alloc.specs.Bitmaps.{HasBitmaps, free_numbers};
 ghost use Rattle.bit_alloc.specs.declared.bitmap.Bitmap.TheVariants.{Inodes};
 ghost use Rattle.fs_cred.specs.declared.errno.Errno.TheVariants.{ENOSPC};
 ghost use Rattle.fs_model.specs.Demands.{refuse};
 ghost use Rattle.fs_model.specs.Limits.{least_free, free_for};
-ghost use Rattle.path_walk.specs.Answers.{refused_or, FailsToRead, IsAnswered};
+ghost use Rattle.call_parts.specs.Space.{AsksFor};
+ghost use Rattle.call_parts.specs.Telling.{checked, Tells};
 
 use bit_alloc::{Bitmap, has_free};
 use fs_cred::{Errno, Refusal};
@@ -32,12 +32,7 @@ fn ask_for<S: Sectors>(
     count: u32,
 ) -> Result<(), Refusal>
     requires { HasBitmaps geometry (S.state s.old) }
-    ensures each { IsAnswered (S.state s.old).disk (S.state s.new).disk
-        (refused_or (refuse ENOSPC (nat_lt (free_numbers geometry map (S.state s.old).sectors) count)) (Ok tt)) result }
-    ensures fault { IfErr result (λ refusal.
-        ((refusal ≡ Refusal.Failed Errno.ENOSPC) × (free_numbers geometry map (S.state s.old).sectors < count))
-        ⊎ FailsToRead (S.state s.old).disk (S.state s.new).disk refusal) }
-    ensures same { IsUnchanged (S.state s.old) (S.state s.new) }
+    ensures { AsksFor count (free_numbers geometry map (S.state s.old).sectors) (S.state s.old) (S.state s.new) result }
 {
     match has_free(s, geometry, map, count) {
         Ok(true) => Ok(()),
@@ -49,12 +44,7 @@ fn ask_for<S: Sectors>(
 /// Asks for free data sectors, before a call that may take some. ENOSPC: fewer than 16 are free.
 pub fn ask_for_sectors<S: Sectors>(s: &mut S, geometry: Geometry) -> Result<(), Refusal>
     requires { HasBitmaps geometry (S.state s.old) }
-    ensures each { IsAnswered (S.state s.old).disk (S.state s.new).disk
-        (refused_or (refuse ENOSPC (nat_lt (free_sectors geometry (S.state s.old).sectors) least_free)) (Ok tt)) result }
-    ensures fault { IfErr result (λ refusal.
-        ((refusal ≡ Refusal.Failed Errno.ENOSPC) × (free_sectors geometry (S.state s.old).sectors < least_free))
-        ⊎ FailsToRead (S.state s.old).disk (S.state s.new).disk refusal) }
-    ensures same { IsUnchanged (S.state s.old) (S.state s.new) }
+    ensures { AsksFor least_free (free_sectors geometry (S.state s.old).sectors) (S.state s.old) (S.state s.new) result }
 {
     ask_for(s, geometry, Bitmap::Blocks, LEAST_FREE)
 }
@@ -70,12 +60,7 @@ fn needed_for(len: usize) -> u32
 /// bytes, fewer than 40.
 pub fn ask_to_write<S: Sectors>(s: &mut S, geometry: Geometry, len: usize) -> Result<(), Refusal>
     requires { HasBitmaps geometry (S.state s.old) }
-    ensures each { IsAnswered (S.state s.old).disk (S.state s.new).disk
-        (refused_or (refuse ENOSPC (nat_lt (free_sectors geometry (S.state s.old).sectors) (free_for len))) (Ok tt)) result }
-    ensures fault { IfErr result (λ refusal.
-        ((refusal ≡ Refusal.Failed Errno.ENOSPC) × (free_sectors geometry (S.state s.old).sectors < free_for len))
-        ⊎ FailsToRead (S.state s.old).disk (S.state s.new).disk refusal) }
-    ensures same { IsUnchanged (S.state s.old) (S.state s.new) }
+    ensures { AsksFor (free_for len) (free_sectors geometry (S.state s.old).sectors) (S.state s.old) (S.state s.new) result }
 {
     ask_for(s, geometry, Bitmap::Blocks, needed_for(len))
 }
@@ -83,9 +68,8 @@ pub fn ask_to_write<S: Sectors>(s: &mut S, geometry: Geometry, len: usize) -> Re
 /// Asks for a free inode. ENOSPC: none is free.
 pub(crate) fn ask_for_inode<S: Sectors>(s: &mut S, geometry: Geometry) -> Result<(), Refusal>
     requires { HasBitmaps geometry (S.state s.old) }
-    ensures each { IsAnswered (S.state s.old).disk (S.state s.new).disk
-        (refused_or (refuse ENOSPC (free_numbers geometry Inodes (S.state s.old).sectors == 0)) (Ok tt)) result }
-    ensures same { IsUnchanged (S.state s.old) (S.state s.new) }
+    ensures { Tells (checked (refuse ENOSPC (free_numbers geometry Inodes (S.state s.old).sectors == 0)))
+        (S.state s.old) (S.state s.new) result }
 {
     ask_for(s, geometry, Bitmap::Inodes, 1)
 }

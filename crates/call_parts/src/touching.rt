@@ -1,15 +1,10 @@
 //! Times that a call moves, once it has changed the tree. A version that keeps none is left as it is.
 
-ghost use Rattle.std.specs.Prelude.{◌≡◌, ◌<◌, OnOk, IfErr};
-ghost use Rattle.sector_txn.specs.Sectors.{SameStore};
-ghost use Rattle.bit_alloc.specs.Room.{TakesSpare, HasSpare};
-ghost use Rattle.bit_alloc.specs.Inodes.{IsSound};
-ghost use Rattle.fs_model.specs.Stands.{HoldsAll, placed};
-ghost use Rattle.fs_model.specs.Trees.{Tree};
-ghost use Rattle.path_walk.specs.Answers.{FailsToRead};
-ghost use Rattle.call_parts.specs.Times.{with_times, MayMoveTimes, MovesTimes};
+ghost use Rattle.std.specs.Prelude.{◌≡◌, ◌<◌};
 ghost use Rattle.fs_model.specs.StoredStamps.{stamps_in};
-ghost use Rattle.fs_model.specs.TreeChanges.{touch_at, touch_one, restamped};
+ghost use Rattle.fs_model.specs.TreeChanges.{touch_at};
+ghost use Rattle.call_parts.specs.Altering.{MayAlter, AltersDisk, Alters};
+ghost use Rattle.call_parts.specs.Times.{with_times, MovesTime, MayMoveTimes, MovesTimes};
 
 use fs_cred::{Errno, Refusal};
 use fs_layout::{Geometry, Inode, Kind};
@@ -49,16 +44,9 @@ fn touch_inode<S: Sectors>(
     touch: Touch,
     now: u64,
 ) -> Result<(), Refusal>
-    requires sound { IsSound geometry (S.state s.old) }
+    requires ready { MayAlter geometry 1 (S.state s.old) }
     requires below { ino < geometry.inodes }
-    requires spare { HasSpare geometry 1 (S.state s.old) }
-    ensures store { SameStore (S.state s.old) (S.state s.new) }
-    ensures superblock { OnOk result ((S.state s.new).sectors 0 ≡ (S.state s.old).sectors 0) }
-    ensures sound { OnOk result (IsSound geometry (S.state s.new)) }
-    ensures taken { OnOk result (TakesSpare geometry 1 (S.state s.old) (S.state s.new)) }
-    ensures held { OnOk result ((t : Tree) → HoldsAll geometry (S.state s.old).sectors (placed t)
-        → HoldsAll geometry (S.state s.new).sectors (placed (restamped (touch_one now (ino, touch)) t))) }
-    ensures fault { IfErr result (FailsToRead (S.state s.old).disk (S.state s.new).disk) }
+    ensures { AltersDisk geometry 1 (λ done. MovesTime geometry now ino touch) (S.state s.old) (S.state s.new) result }
 {
     let mut content = [0; 512];
     let Ok(inode) = load_with_content(s, geometry, ino, &mut content) else {
@@ -81,9 +69,7 @@ pub fn touch<S: Sectors>(
     touches: &[(u32, Touch)],
 ) -> Result<(), Refusal>
     requires { MayMoveTimes geometry touches.now (S.state s.old) }
-    ensures store { SameStore (S.state s.old) (S.state s.new) }
-    ensures moved { OnOk result (MovesTimes geometry now touches.now (S.state s.old) (S.state s.new)) }
-    ensures fault { IfErr result (FailsToRead (S.state s.old).disk (S.state s.new).disk) }
+    ensures { Alters (MovesTimes geometry now touches.now) (S.state s.old) (S.state s.new) result }
 {
     if !geometry.version.keeps_times() {
         return Ok(());

@@ -65,7 +65,7 @@ module _ {p : Geometry} (old : TxnState) {processes : ProcessTable} {pid fd : �
   size_met fits = asked_is ∙ ap (λ (b : Bool). first_of (refuse EFBIG b ∷ [])) (le-ltb (max_file_size p.version) size fits)
 
   pub cuts : (new : TxnState) → d.write ≡ true → size ≤ max_file_size p.version → processes ≡ with_changed processes pid (λ p. p)
-      → ChangesBytes p d.ino old new (λ held. resized held size)
+      → ChangesBytes p d.ino (λ held. resized held size) old.sectors new.sectors
       → IsChange p new.sectors processes s o.process (ftruncate_demands size (open_scene s o.process)) (λ k. ftruncate_effect fd size (open_scene s o.process)) Done
       ((d.ino, Modified) ∷ [])
   cuts new open_to_write fits same c =

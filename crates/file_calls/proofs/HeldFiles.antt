@@ -24,7 +24,8 @@ use Rattle.fs_model.specs.StoredNodes.{HoldsBody}
 use Rattle.call_parts.specs.Performing.{IsStateOf}
 use Rattle.call_parts.proofs.Calling.{state_tree}
 use Rattle.path_walk.proofs.HeldNodes.{held_node, held_kind, held_names, held_parent}
-use Rattle.call_parts.specs.Reaching.{IsOpened, checked}
+use Rattle.call_parts.specs.Reaching.{IsOpened}
+use Rattle.call_parts.specs.Telling.{checked}
 use Rattle.call_parts.proofs.ByDescriptor.{open_scene, open_fits, open_node}
 
 pub no_directory : (k : Kind) → Ok tt ≡ checked (refuse EISDIR (is_directory_kind k)) → k ≢ kinds.Directory

@@ -27,7 +27,8 @@ use Rattle.fs_model.specs.Trees.{parent}
 use Rattle.fs_model.specs.DescriptorCalls.{readdir_row, readdir_demands, readdir_effect}
 use Rattle.call_parts.specs.Performing.{IsStateOf}
 use Rattle.call_parts.specs.declared.reaching.OpenFor.TheVariants.{Reading}
-use Rattle.call_parts.specs.Reaching.{ActsOn, IsOpened, checked}
+use Rattle.call_parts.specs.Reaching.{ActsOn, IsOpened}
+use Rattle.call_parts.specs.Telling.{checked}
 use Rattle.call_parts.proofs.Calling.{first_refuses}
 use Rattle.call_parts.proofs.ByDescriptor.{open_scene, the_opened, open_kind}
 use Rattle.file_calls.proofs.HeldFiles.{open_directory, open_names, open_parent}

@@ -55,7 +55,7 @@ use Rattle.file_calls.proofs.OpenedTimes.{Prepares}
 use Rattle.file_calls.proofs.Rewritten.{bytes_rewritten}
 use Rattle.call_parts.proofs.Shown.{the_node_is}
 use Rattle.call_parts.proofs.Checked.{link_says, refused_as}
-use Rattle.call_parts.specs.Reaching.{Checked, checked}
+use Rattle.call_parts.specs.Telling.{Checked, checked}
 
 -- ---- what is there
 
@@ -226,7 +226,7 @@ module _ {p : Geometry} {map : SectorMap} {flags : Flags} {q : Process} {f : Fou
   -- without its bytes
   pub old_emptied : (cred : Credential) (v : Inode) (same : cred ≡ q.cred)
       → refused_or {A = Inode} (first_of (found_asked flags cred s.tree n f.step)) (Ok (inode_at p map n)) ≡ Ok v
-      → (mode : ℕ) (old new : TxnState) → old.sectors ≡ map → flags.trunc && flags.write ≡ true → ChangesBytes p n old new (λ held. resized held 0)
+      → (mode : ℕ) (old new : TxnState) → old.sectors ≡ map → flags.trunc && flags.write ≡ true → ChangesBytes p n (λ held. resized held 0) old.sectors new.sectors
       → Prepares p new.sectors flags mode q f s n ((n, Modified) ∷ [])
   old_emptied cred v same is mode old new old_is cuts c =
       let at = subst (λ (m : SectorMap). IsStateOf p m i.processes s) (sym old_is) i.is_state in

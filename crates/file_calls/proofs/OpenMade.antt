@@ -55,7 +55,7 @@ use Rattle.call_parts.proofs.Makeable.{found_new, has_few, may_make}
 use Rattle.call_parts.proofs.NewFile.{nothing_stands, dir_still_held, set_group_says, default_is}
 use Rattle.call_parts.proofs.Checked.{refused_as}
 use Rattle.call_parts.proofs.Shown.{the_node_is}
-use Rattle.call_parts.specs.Reaching.{checked}
+use Rattle.call_parts.specs.Telling.{checked}
 
 -- ---- what was found
 

@@ -27,7 +27,8 @@ use Rattle.fs_model.specs.DescriptorCalls.{read_row, read_demands, read_effect}
 use Rattle.fs_model.proofs.StepsBodies.{bytes_are_few}
 use Rattle.call_parts.specs.Performing.{IsStateOf}
 use Rattle.call_parts.specs.declared.reaching.OpenFor.TheVariants.{Reading}
-use Rattle.call_parts.specs.Reaching.{ActsOn, IsOpened, checked}
+use Rattle.call_parts.specs.Reaching.{ActsOn, IsOpened}
+use Rattle.call_parts.specs.Telling.{checked}
 use Rattle.call_parts.proofs.Calling.{first_refuses}
 use Rattle.call_parts.proofs.ByDescriptor.{open_scene, the_opened, open_fits, open_node, open_kind}
 use Rattle.file_calls.proofs.HeldFiles.{open_file}

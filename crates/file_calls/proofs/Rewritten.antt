@@ -6,7 +6,7 @@ use Rattle.std.proofs.Common.{refl, sym, subst}
 use Rattle.fs_layout.specs.declared.inode.Inode.{Inode}
 use Rattle.fs_layout.specs.declared.inode.Kind.TheVariants as kinds
 use Rattle.fs_layout.specs.declared.geometry.Geometry.{Geometry}
-use Rattle.fs_layout.specs.Bytes.{IsBytes}
+use Rattle.fs_layout.specs.Bytes.{SectorMap, IsBytes}
 use Rattle.fs_layout.specs.Images.{Holds, inode_at}
 use Rattle.sector_disk.specs.Disk.{DiskState, HasFailed}
 use Rattle.fs_cred.specs.declared.errno.Errno.TheVariants.{EIO}
@@ -32,25 +32,25 @@ use Rattle.path_walk.specs.Answers.{FailsToRead}
 use Rattle.path_walk.proofs.HeldNodes.{held_node, bytes_say}
 use Rattle.call_parts.specs.ByteChanges.{ChangesBytes}
 
-pub bytes_rewritten : {p : Geometry} {old new : TxnState} {processes : ProcessTable} {s : State} (at : IsStateOf p old.sectors processes s) (now : ProcessTable)
+pub bytes_rewritten : {p : Geometry} {old new : SectorMap} {processes : ProcessTable} {s : State} (at : IsStateOf p old processes s) (now : ProcessTable)
     → ((n : ℕ) → IsTrue (is_open s.processes n) → IsTrue (is_open now n)) → (n : ℕ) (node : Node) → node_at s.tree n ≡ Some node
-    → (inode_at p old.sectors n).kind ≡ kinds.File → (f : List ℕ → List ℕ) → ChangesBytes p n old new f
+    → (inode_at p old n).kind ≡ kinds.File → (f : List ℕ → List ℕ) → ChangesBytes p n f old new
     → length (f (bytes_in node.body)) ≤ s.room.file_limit → IsBytes (f (bytes_in node.body))
-    → HoldsAll p new.sectors (placed (swept (changed s.tree (Rewrite Modified n (record node { body = with_bytes (f (bytes_in node.body)) node.body }))) now))
+    → HoldsAll p new (placed (swept (changed s.tree (Rewrite Modified n (record node { body = with_bytes (f (bytes_in node.body)) node.body }))) now))
 bytes_rewritten {p} {old} {new} {processes} {s} at now still n node there file f c few are =
-    let v = inode_at p old.sectors n in
-    let w = inode_at p new.sectors n in
+    let v = inode_at p old n in
+    let w = inode_at p new n in
     let held = held_node (state_tree at) n node there in
     let bytes = f (bytes_in node.body) in
-    rewrite_held s at.is_state at.up now still p old.sectors at.holds at.same_room new.sectors Modified n node (record node { body = with_bytes bytes node.body }) there
+    rewrite_held s at.is_state at.up now still p old at.holds at.same_room new Modified n node (record node { body = with_bytes bytes node.body }) there
     (bytes_may_replace s.room s.tree n node (at.is_state.tree.each n node there) bytes few are) c.inode c.used
-    (bytes_held old.sectors new.sectors v w (record { node = node; names = names_of s.tree n; parent = parent s.tree n }) held bytes file c.fields c.acls
-    (c.held (bytes_in node.body) (bytes_say p.version old.sectors v node.body file held.body)))
+    (bytes_held old new v w (record { node = node; names = names_of s.tree n; parent = parent s.tree n }) held bytes file c.fields c.acls
+    (c.held (bytes_in node.body) (bytes_say p.version old v node.body file held.body)))
 
 -- ---- from the calls on what an inode holds
 
 pub content_changes : {p : Geometry} {n taken more : ℕ} {old new : TxnState} {v w : Inode} (f : List ℕ → List ℕ) → v ≡ inode_at p old.sectors n
-    → ChangesContent p n taken more old new v w → ((held : List ℕ) → Holds old.sectors v held → Holds new.sectors w (f held)) → ChangesBytes p n old new f
+    → ChangesContent p n taken more old new v w → ((held : List ℕ) → Holds old.sectors v held → Holds new.sectors w (f held)) → ChangesBytes p n f old.sectors new.sectors
 content_changes {p} {n} {taken} {more} {old} {new} {v} {w} f is c held = record {
   super = c.touches.super;
   inode = c.touches.inode;

@@ -10,7 +10,8 @@ use Rattle.fs_model.specs.Demands.{first_of}
 use Rattle.fs_model.specs.Rows.{row_of}
 use Rattle.fs_model.specs.Scenes.{check_of_mode}
 use Rattle.fs_model.specs.AttributeCalls.{stat_row, lstat_row, access_row, get_acl_row, set_acl_row, truncate_row, chmod_row, chown_row, stat_demands, stat_effect, access_demands, access_effect, get_acl_effect, set_acl_arguments, set_acl_demands, set_acl_effect, truncate_demands, truncate_effect, chmod_demands, chmod_effect, chown_demands, chown_effect}
-use Rattle.call_parts.specs.Reaching.{Checked, checked, WalksPath}
+use Rattle.call_parts.specs.Telling.{Checked, checked}
+use Rattle.call_parts.specs.Reaching.{WalksPath}
 use Rattle.call_parts.proofs.Calling.{or_else-none}
 
 module _ (path : List ℕ) where

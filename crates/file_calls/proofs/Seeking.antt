@@ -29,7 +29,8 @@ use Rattle.fs_model.specs.States.{State}
 use Rattle.fs_model.specs.DescriptorCalls.{seekable, seek_base, sought, lseek_row, lseek_demands, lseek_effect}
 use Rattle.call_parts.specs.Performing.{IsStateOf}
 use Rattle.call_parts.specs.declared.reaching.OpenFor.TheVariants.{Anything}
-use Rattle.call_parts.specs.Reaching.{ActsOn, IsOpened, checked}
+use Rattle.call_parts.specs.Reaching.{ActsOn, IsOpened}
+use Rattle.call_parts.specs.Telling.{checked}
 use Rattle.call_parts.proofs.Calling.{first_refuses}
 use Rattle.call_parts.proofs.ByDescriptor.{open_scene, the_opened, open_kind}
 use Rattle.file_calls.proofs.HeldFiles.{open_file}

@@ -14,7 +14,6 @@ use Rattle.fs_layout.specs.declared.geometry.Geometry.{Geometry}
 use Rattle.fs_layout.specs.Bytes.{SectorMap, resized}
 use Rattle.fs_layout.specs.Images.{inode_at}
 use Rattle.fs_layout.specs.Version.{max_file_size}
-use Rattle.sector_txn.specs.Sectors.{TxnState}
 use Rattle.fs_model.specs.declared.reply.Reply.TheVariants.{Done}
 use Rattle.fs_model.specs.declared.touch.Touch.TheVariants.{Modified}
 use Rattle.fs_model.specs.declared.walk.Form.TheVariants.{Follow}
@@ -121,27 +120,27 @@ module _ {p : Geometry} {map : SectorMap} {processes : ProcessTable} {s : State}
             (both_met (permission_at_end (scene_at s q f) f 1 (perms false true false)) last_asked granted
             (or_else-none (refuse EFBIG (nat_lt (max_file_size p.version) size)) ∙ fits)))
 
-module _ {p : Geometry} {old : TxnState} {processes : ProcessTable} {s : State} {pid : ℕ} {q : Process} {path : List ℕ} {f : Found} {n : ℕ} {v : Inode}
-    (at : IsStateOf p old.sectors processes s) (has : HasFound s pid q Follow path f) (some : f.ino ≡ Some n) (number_is : found_ino f ≡ n) (inode : v ≡ inode_at p old.sectors n)
+module _ {p : Geometry} {old : SectorMap} {processes : ProcessTable} {s : State} {pid : ℕ} {q : Process} {path : List ℕ} {f : Found} {n : ℕ} {v : Inode}
+    (at : IsStateOf p old processes s) (has : HasFound s pid q Follow path f) (some : f.ino ≡ Some n) (number_is : found_ino f ≡ n) (inode : v ≡ inode_at p old n)
     (size : ℕ) where
   -- the file has that size
-  pub size_changed : (new : TxnState) → must_be_there f ≡ None → refuse EISDIR (is_directory_kind v.kind) ≡ None
+  pub size_changed : (new : SectorMap) → must_be_there f ≡ None → refuse EISDIR (is_directory_kind v.kind) ≡ None
       → permission_at_end (scene_at s q f) f 1 (perms false true false) ≡ None → refuse EFBIG (nat_lt (max_file_size p.version) size) ≡ None
-      → size ≤ max_file_size p.version → v.kind ≡ kinds.File → ChangesBytes p n old new (λ held. resized held size)
-      → IsChange p new.sectors processes s q (truncate_demands size (scene_at s q f)) (truncate_effect size (scene_at s q f)) Done ((n, Modified) ∷ [])
+      → size ≤ max_file_size p.version → v.kind ≡ kinds.File → ChangesBytes p n (λ held. resized held size) old new
+      → IsChange p new processes s q (truncate_demands size (scene_at s q f)) (truncate_effect size (scene_at s q f)) Done ((n, Modified) ∷ [])
   size_changed new there file granted fits few kind c =
       let a = followed_access n at has some in
       let is_file = sym (ap (λ (w : Inode). w.kind) inode) ∙ kind in
       let held = held_node (state_tree at) n a.node a.at in
       let is = (at.is_state.tree).each n a.node a.at in
       let limit = ap (λ (r : Room). r.file_limit) at.same_room in
-      rewrites_found at new.sectors Modified n a.node (resized_node size a.node) a.at
+      rewrites_found at new Modified n a.node (resized_node size a.node) a.at
       (bytes_may_replace s.room s.tree n a.node is (resized (bytes_in a.node.body) size)
       (let len = length-resized (bytes_in a.node.body) size in omega (arith, len, few, limit))
       (IsBytes-resized (bytes_in a.node.body) size (bytes_are_bytes s.room s.tree a.node.body is.body)))
       (record { super = c.super; inode = c.inode; used = c.used })
-      (bytes_held old.sectors new.sectors (inode_at p old.sectors n) (inode_at p new.sectors n)
+      (bytes_held old new (inode_at p old n) (inode_at p new n)
       (record { node = a.node; names = names_of s.tree n; parent = parent s.tree n }) held (resized (bytes_in a.node.body) size) is_file c.fields c.acls
-      (c.held (bytes_in a.node.body) (bytes_say p.version old.sectors (inode_at p old.sectors n) a.node.body is_file held.body)))
+      (c.held (bytes_in a.node.body) (bytes_say p.version old (inode_at p old n) a.node.body is_file held.body)))
       q f (truncate_demands size (scene_at s q f)) (resized_node size) (all_granted at has some number_is inode size there file granted fits) number_is
       (node_is s q f n number_is a) refl

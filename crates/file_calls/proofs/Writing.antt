@@ -206,13 +206,13 @@ module _ {p : Geometry} {map : SectorMap} {processes : ProcessTable} {pid fd : �
 
 -- ---- what is written
 
-module _ {p : Geometry} {old new : TxnState} {processes : ProcessTable} {pid fd : ℕ} {d : Descriptor} (o : IsOpened processes pid fd d) (s : State) (at : IsStateOf p old.sectors processes s)
-    (wrote : d.write ≡ true) (v : Inode) (is : v ≡ inode_at p old.sectors d.ino) (offset : ℕ) (offset_is : offset ≡ (if d.append then v.size else d.offset))
-    (bytes : List ℕ) (some : is_empty bytes ≡ false) (near : offset < max_file_size p.version) (enough : free_for (length bytes) ≤ free_sectors p old.sectors) (fresh : IsBytes bytes) (count : ℕ)
+module _ {p : Geometry} {old new : SectorMap} {processes : ProcessTable} {pid fd : ℕ} {d : Descriptor} (o : IsOpened processes pid fd d) (s : State) (at : IsStateOf p old processes s)
+    (wrote : d.write ≡ true) (v : Inode) (is : v ≡ inode_at p old d.ino) (offset : ℕ) (offset_is : offset ≡ (if d.append then v.size else d.offset))
+    (bytes : List ℕ) (some : is_empty bytes ≡ false) (near : offset < max_file_size p.version) (enough : free_for (length bytes) ≤ free_sectors p old) (fresh : IsBytes bytes) (count : ℕ)
     (counted : count ≡ min (length bytes) (min write_limit (max_file_size p.version - offset)))
     (now : ProcessTable) (still : (n : ℕ) → IsTrue (is_open s.processes n) → IsTrue (is_open now n))
-    (c : ChangesBytes p d.ino old new (λ held. overwritten held offset (take count bytes))) where
-  pub writes : IsChange p new.sectors now s (with_offset o.process fd (offset + count)) (write_demands fd bytes (open_scene s o.process))
+    (c : ChangesBytes p d.ino (λ held. overwritten held offset (take count bytes)) old new) where
+  pub writes : IsChange p new now s (with_offset o.process fd (offset + count)) (write_demands fd bytes (open_scene s o.process))
       (λ k. write_effect fd bytes (open_scene s o.process)) (Wrote count) ((d.ino, Modified) ∷ [])
   writes =
       let x = open_fits o s at in
@@ -233,14 +233,14 @@ module _ {p : Geometry} {old new : TxnState} {processes : ProcessTable} {pid fd 
       }
 
 -- the same, once the inode was read and space was asked for
-module _ {p : Geometry} {old mid asked new : TxnState} {processes : ProcessTable} {pid fd : ℕ} {d : Descriptor} (w : IsOpenFor processes pid fd Writing d) (first : IsUnchanged old mid)
+module _ {p : Geometry} {old mid asked : TxnState} {new : SectorMap} {processes : ProcessTable} {pid fd : ℕ} {d : Descriptor} (w : IsOpenFor processes pid fd Writing d) (first : IsUnchanged old mid)
     (second : IsUnchanged mid asked) {v : Inode} (found : v ≡ inode_at p old.sectors d.ino) {offset : ℕ} (offset_is : offset ≡ (if d.append then v.size else d.offset))
     (near : offset < max_file_size p.version) {bytes given : List ℕ} (all : given ≡ bytes) (some : is_empty bytes ≡ false) (fresh : IsBytes bytes)
     (enough : refused_or {A = Unit {0}} (refuse ENOSPC (nat_lt (free_sectors p mid.sectors) (free_for (length given)))) (Ok tt) ≡ Ok tt)
     {count : ℕ} (counted : count ≡ min (length given) (min write_limit (max_file_size p.version - offset)))
-    (c : ChangesBytes p d.ino asked new (λ held. overwritten held offset (take count given))) where
+    (c : ChangesBytes p d.ino (λ held. overwritten held offset (take count given)) asked.sectors new) where
   pub wrote : (s : State) → IsStateOf p asked.sectors processes s → (now : ProcessTable) → ((n : ℕ) → IsTrue (is_open s.processes n) → IsTrue (is_open now n))
-      → IsChange p new.sectors now s (with_offset w.opened.process fd (offset + count)) (write_demands fd bytes (open_scene s w.opened.process))
+      → IsChange p new now s (with_offset w.opened.process fd (offset + count)) (write_demands fd bytes (open_scene s w.opened.process))
       (λ k. write_effect fd bytes (open_scene s w.opened.process)) (Wrote count) ((d.ino, Modified) ∷ [])
   wrote s at now still =
       let is = kept (λ (m : SectorMap). v ≡ inode_at p m d.ino) (unchanged_joined first second) found in
@@ -248,4 +248,4 @@ module _ {p : Geometry} {old mid asked new : TxnState} {processes : ProcessTable
       (kept (λ (m : SectorMap). free_for (length given) ≤ free_sectors p m) second (is_enough (free_sectors p mid.sectors) (free_for (length given)) enough)) in
       writes w.opened s at (open_to_write w) v is offset offset_is bytes some near free fresh count
       (counted ∙ ap (λ (l : List ℕ). min (length l) (min write_limit (max_file_size p.version - offset))) all) now still
-      (subst (λ (l : List ℕ). ChangesBytes p d.ino asked new (λ held. overwritten held offset (take count l))) all c)
+      (subst (λ (l : List ℕ). ChangesBytes p d.ino (λ held. overwritten held offset (take count l)) asked.sectors new) all c)

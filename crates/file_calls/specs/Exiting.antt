@@ -2,7 +2,7 @@
 --     IsExited        nothing refuses it, and the map holds the tree after it
 --     IsNotExited        why it is refused
 --     Exits        the whole
---     LeavesAt        what becomes of what one descriptor is for
+--     LeavesAt, LeavesAll        what becomes of what one descriptor is for, and of all that the process has open
 use Rattle.std.specs.Prelude.{◌≡◌, ℕ, None, Some, Result, Ok, Err, MatchResult, OnOk, OnErr}
 use Rattle.sector_disk.specs.Disk.{DiskState, HasFailed}
 use Rattle.fs_cred.specs.declared.errno.Errno.{Errno}
@@ -50,3 +50,8 @@ pub data LeavesAt (p : Geometry) (processes : ProcessTable) (pid fd : ℕ) (old 
   is_closed : (errno : Errno) → open_in processes pid fd ≡ Err errno → IsUnchanged old new → LeavesAt p processes pid fd old new
   was_open : (d : Descriptor) → open_in processes pid fd ≡ Ok d → LeavesInode p d.ino (is_open (without nat_cmp processes pid) d.ino) old new
       → LeavesAt p processes pid fd old new
+
+-- Nothing is left of what the process alone has open.
+pub record LeavesAll (p : Geometry) (processes : ProcessTable) (pid : ℕ) (old new : TxnState) : Type 0 where
+  pub super : new.sectors 0 ≡ old.sectors 0
+  pub held : (s : State) → IsStateOf p old.sectors processes s → HoldsAll p new.sectors (placed (swept s.tree (without nat_cmp processes pid)))

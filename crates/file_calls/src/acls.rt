@@ -1,25 +1,23 @@
 //! The ACLs of what a path leads to: acl_get_file(3) and acl_set_file(3), with acl(5).
 
-ghost use Rattle.std.specs.Prelude.{◌≡◌, ◌≢◌, ◌<◌, ◌≤◌, None, Some, Ok, IfOk, OnOk, IfErr};
+ghost use Rattle.std.specs.Prelude.{◌≡◌, ◌≢◌, ◌<◌, ◌≤◌, None};
 ghost use Rattle.std.specs.Option.{option_copied};
-ghost use Rattle.posix_acl.specs.AccessList.{AccessList};
 ghost use Rattle.fs_layout.specs.AclSector.{kept_acl};
 ghost use Rattle.fs_layout.specs.Inode.{FitsInode};
+ghost use Rattle.fs_layout.specs.Images.{inode_at, free_sectors};
 ghost use Rattle.fs_model.specs.declared.call.Call.TheVariants.{GetAcl, SetAcl};
 ghost use Rattle.fs_model.specs.AttributeCalls.{acl_shown, needs_sector, set_acl_arguments};
 ghost use Rattle.fs_model.specs.Demands.{first_of};
-ghost use Rattle.fs_model.specs.Nodes.{Body, default_in};
-ghost use Rattle.fs_layout.specs.Images.{inode_at, free_sectors};
-ghost use Rattle.sector_txn.specs.Sectors.{SameStore, IsUnchanged};
+ghost use Rattle.fs_model.specs.Nodes.{default_in};
+ghost use Rattle.sector_txn.specs.Sectors.{IsUnchanged};
 ghost use Rattle.bit_alloc.specs.Bitmaps.{HasBitmaps};
-ghost use Rattle.bit_alloc.specs.Inodes.{IsSound};
-ghost use Rattle.bit_alloc.specs.Room.{HasSpare, TakesSpare};
+ghost use Rattle.bit_alloc.specs.Room.{HasSpare};
 ghost use Rattle.inode_table.specs.Acls.{HasAcl, acl_takes};
-ghost use Rattle.inode_table.specs.Inodes.{IsInodeOf};
-ghost use Rattle.path_walk.specs.Answers.{refused_or, Interrupts, IsAnswered};
-ghost use Rattle.call_parts.specs.Performing.{IsReadyFor, PerformsFor};
+ghost use Rattle.call_parts.specs.Altering.{MayAlter, AltersDisk};
 ghost use Rattle.call_parts.specs.Asked.{holder_asked, acl_space_asked};
-ghost use Rattle.call_parts.specs.Given.{SavesAcl, SavesDefaultAcl, HasBody};
+ghost use Rattle.call_parts.specs.Given.{SavesAcl, SavesDefaultAcl, SavesOf, HasBody};
+ghost use Rattle.call_parts.specs.Performing.{IsReadyFor, PerformsFor};
+ghost use Rattle.call_parts.specs.Telling.{checked, ShowsInode, Tells, ReadsInode};
 ghost use Rattle.call_parts.specs.UsedInode.{IsUsedInode};
 
 use call_parts::{CallResult, Caller, ask_for_sectors, default_of, reach, reach_owned, touch};
@@ -32,12 +30,8 @@ use sector_txn::Sectors;
 
 /// The access ACL of an inode of the table, a file or a directory. ENOMEM: it finds no memory. EIO: the disk has failed.
 pub(crate) fn acl_of<S: Sectors>(s: &mut S, caller: &Caller, inode: &Inode) -> Result<Acl, Refusal>
-    requires sound { IsSound caller.now.geometry (S.state s.old) }
-    requires there { IsInodeOf caller.now.geometry (S.state s.old).sectors inode.now }
-    requires has { (a : AccessList) × HasAcl (S.state s.old).sectors inode.now a }
-    ensures found { IfOk result (λ acl. (a : AccessList) → HasAcl (S.state s.old).sectors inode.now a → acl ≡ a) }
-    ensures same { IsUnchanged (S.state s.old) (S.state s.new) }
-    ensures interrupts { IfErr result (Interrupts (S.state s.old).disk (S.state s.new).disk) }
+    requires { ShowsInode caller.now.geometry (S.state s.old) inode.now HasAcl }
+    ensures { ReadsInode inode.now HasAcl (λ acl. acl) (S.state s.old) (S.state s.new) result }
 {
     match load_acl(caller.alloc, s, caller.geometry, inode) {
         Ok(acl) => Ok(acl),
@@ -55,18 +49,14 @@ pub(crate) fn give_acl<S: Sectors>(
     inode: &Inode,
     acl: &Acl,
 ) -> Result<(), Refusal>
-    requires sound { IsSound geometry (S.state s.old) }
+    requires ready { MayAlter geometry 2 (S.state s.old) }
     requires below { ino < geometry.inodes }
     requires inode { inode.now ≡ record (inode_at geometry (S.state s.old).sectors ino) { mode = inode.now.mode } }
     requires fits { FitsInode inode.now }
     requires used { inode.now.kind ≢ Kind.Free }
     requires no_link { inode.now.kind ≢ Kind.Link }
-    requires spare { HasSpare geometry 2 (S.state s.old) }
     requires room { acl_takes inode.now.acl (kept_acl acl.now) ≤ free_sectors geometry (S.state s.old).sectors }
-    ensures given { OnOk result (SavesAcl geometry ino inode.now.mode acl.now (S.state s.old).sectors (S.state s.new).sectors) }
-    ensures taken { OnOk result (TakesSpare geometry 2 (S.state s.old) (S.state s.new)) }
-    ensures store { SameStore (S.state s.old) (S.state s.new) }
-    ensures interrupts { IfErr result (Interrupts (S.state s.old).disk (S.state s.new).disk) }
+    ensures { AltersDisk geometry 2 (λ done. SavesAcl geometry ino inode.now.mode acl.now) (S.state s.old) (S.state s.new) result }
 {
     match save_acl(s, geometry, ino, inode, acl) {
         Ok(()) => Ok(()),
@@ -80,13 +70,8 @@ fn shown_default<S: Sectors>(
     caller: &Caller,
     inode: &Inode,
 ) -> Result<Option<Acl>, Refusal>
-    requires sound { IsSound caller.now.geometry (S.state s.old) }
-    requires there { IsInodeOf caller.now.geometry (S.state s.old).sectors inode.now }
-    requires has { (b : Body) × HasBody caller.now.geometry.version (S.state s.old).sectors inode.now b }
-    ensures found { IfOk result (λ acl. (b : Body) → HasBody caller.now.geometry.version (S.state s.old).sectors inode.now b
-        → acl ≡ default_in b) }
-    ensures same { IsUnchanged (S.state s.old) (S.state s.new) }
-    ensures interrupts { IfErr result (Interrupts (S.state s.old).disk (S.state s.new).disk) }
+    requires { ShowsInode caller.now.geometry (S.state s.old) inode.now (HasBody caller.now.geometry.version) }
+    ensures { ReadsInode inode.now (HasBody caller.now.geometry.version) default_in (S.state s.old) (S.state s.new) result }
 {
     if inode.kind != Kind::Directory {
         return Ok(None);
@@ -102,13 +87,8 @@ fn shown_acl<S: Sectors>(
     inode: &Inode,
     which: AclType,
 ) -> Result<Option<Acl>, Refusal>
-    requires sound { IsSound caller.now.geometry (S.state s.old) }
-    requires there { IsInodeOf caller.now.geometry (S.state s.old).sectors inode.now }
-    requires has { (b : Body) × HasBody caller.now.geometry.version (S.state s.old).sectors inode.now b }
-    ensures found { IfOk result (λ acl. (b : Body) → HasBody caller.now.geometry.version (S.state s.old).sectors inode.now b
-        → acl ≡ acl_shown which b) }
-    ensures same { IsUnchanged (S.state s.old) (S.state s.new) }
-    ensures interrupts { IfErr result (Interrupts (S.state s.old).disk (S.state s.new).disk) }
+    requires { ShowsInode caller.now.geometry (S.state s.old) inode.now (HasBody caller.now.geometry.version) }
+    ensures { ReadsInode inode.now (HasBody caller.now.geometry.version) (acl_shown which) (S.state s.old) (S.state s.new) result }
 {
     match which {
         AclType::Access => {
@@ -134,7 +114,7 @@ pub fn get_acl<S: Sectors>(s: &mut S, caller: &Caller, path: &Path, which: AclTy
 
 // Asks whether this may be given at all: an access ACL can't be removed.
 fn check_acl(which: AclType, acl: Option<&Acl>) -> Result<(), Refusal>
-    ensures { result ≡ refused_or (first_of (set_acl_arguments which (option_copied acl.entry))) (Ok tt) }
+    ensures { result ≡ checked (first_of (set_acl_arguments which (option_copied acl.entry))) }
 {
     match (which, acl) {
         (AclType::Access, None) => Err(Refusal::Failed(Errno::EINVAL)),
@@ -144,7 +124,7 @@ fn check_acl(which: AclType, acl: Option<&Acl>) -> Result<(), Refusal>
 
 // Asks whether what is of this kind may have it: only a directory has a default ACL.
 fn check_holder(which: AclType, kind: Kind) -> Result<(), Refusal>
-    ensures { result ≡ refused_or (holder_asked which kind) (Ok tt) }
+    ensures { result ≡ checked (holder_asked which kind) }
 {
     match which {
         AclType::Default if kind != Kind::Directory => Err(Refusal::Failed(Errno::ENOTDIR)),
@@ -171,9 +151,8 @@ fn ask_for_space<S: Sectors>(
     acl: Option<&Acl>,
 ) -> Result<(), Refusal>
     requires { HasBitmaps geometry (S.state s.old) }
-    ensures each { IsAnswered (S.state s.old).disk (S.state s.new).disk (refused_or
-        (first_of (acl_space_asked which (option_copied acl.entry) (free_sectors geometry (S.state s.old).sectors))) (Ok tt)) result }
-    ensures same { IsUnchanged (S.state s.old) (S.state s.new) }
+    ensures { Tells (checked (first_of (acl_space_asked which (option_copied acl.entry) (free_sectors geometry (S.state s.old).sectors))))
+        (S.state s.old) (S.state s.new) result }
 {
     if !takes_sector(which, acl) {
         return Ok(());
@@ -193,10 +172,7 @@ fn give_default_acl<S: Sectors>(
     requires loaded { IsUsedInode geometry (S.state s.old) ino inode.now }
     requires spare { HasSpare geometry 2 (S.state s.old) }
     requires room { acl_takes inode.now.default_acl (option_copied acl) ≤ free_sectors geometry (S.state s.old).sectors }
-    ensures given { OnOk result (SavesDefaultAcl geometry ino (option_copied acl.entry) (S.state s.old).sectors (S.state s.new).sectors) }
-    ensures taken { OnOk result (TakesSpare geometry 2 (S.state s.old) (S.state s.new)) }
-    ensures store { SameStore (S.state s.old) (S.state s.new) }
-    ensures interrupts { IfErr result (Interrupts (S.state s.old).disk (S.state s.new).disk) }
+    ensures { AltersDisk geometry 2 (λ done. SavesDefaultAcl geometry ino (option_copied acl.entry)) (S.state s.old) (S.state s.new) result }
 {
     match save_default_acl(s, geometry, ino, inode, acl) {
         Ok(()) => Ok(()),
@@ -217,13 +193,8 @@ fn replace_acl<S: Sectors>(
     requires no_link { inode.now.kind ≢ Kind.Link }
     requires spare { HasSpare geometry 2 (S.state s.old) }
     requires space { first_of (acl_space_asked which (option_copied acl) (free_sectors geometry (S.state s.old).sectors)) ≡ None }
-    ensures access { OnOk result (which ≡ AclType.Access → (a : AccessList) → option_copied acl.entry ≡ Some a
-        → SavesAcl geometry ino inode.now.mode a (S.state s.old).sectors (S.state s.new).sectors) }
-    ensures default { OnOk result (which ≡ AclType.Default
-        → SavesDefaultAcl geometry ino (option_copied acl.entry) (S.state s.old).sectors (S.state s.new).sectors) }
-    ensures taken { OnOk result (TakesSpare geometry 2 (S.state s.old) (S.state s.new)) }
-    ensures store { SameStore (S.state s.old) (S.state s.new) }
-    ensures interrupts { IfErr result (Interrupts (S.state s.old).disk (S.state s.new).disk) }
+    ensures { AltersDisk geometry 2 (λ done. SavesOf which geometry ino inode.now.mode (option_copied acl.entry))
+        (S.state s.old) (S.state s.new) result }
 {
     match (which, acl) {
         (AclType::Access, Some(acl)) => give_acl(s, geometry, ino, inode, acl),

@@ -1,18 +1,18 @@
 //! Mode, owner and group of what a path leads to: POSIX.1-2017, chmod() and chown().
 
-ghost use Rattle.std.specs.Prelude.{◌≡◌, ◌≢◌, ◌<◌, Ok, OnOk, IfErr};
+ghost use Rattle.std.specs.Prelude.{◌≡◌, ◌≢◌, OnOk, IfErr};
+ghost use Rattle.fs_model.specs.declared.call.Call.TheVariants.{Chmod, Chown};
 ghost use Rattle.fs_model.specs.Demands.{first_of};
 ghost use Rattle.posix_acl.specs.AccessList.{AccessList, with_mode_bits};
-ghost use Rattle.fs_model.specs.declared.call.Call.TheVariants.{Chmod, Chown};
-ghost use Rattle.fs_layout.specs.Images.{inode_at};
 ghost use Rattle.sector_txn.specs.Sectors.{SameStore};
-ghost use Rattle.bit_alloc.specs.Inodes.{IsSound};
 ghost use Rattle.bit_alloc.specs.Room.{HasSpare, TakesSpare};
 ghost use Rattle.inode_table.specs.Acls.{HasAcl};
-ghost use Rattle.path_walk.specs.Answers.{refused_or, Interrupts};
-ghost use Rattle.call_parts.specs.Performing.{IsReadyFor, PerformsFor};
+ghost use Rattle.path_walk.specs.Answers.{Interrupts};
+ghost use Rattle.call_parts.specs.Altering.{AltersDisk};
 ghost use Rattle.call_parts.specs.Asked.{owner_asked};
 ghost use Rattle.call_parts.specs.Given.{GivesOwner, SavesAcl, special_mode};
+ghost use Rattle.call_parts.specs.Performing.{IsReadyFor, PerformsFor};
+ghost use Rattle.call_parts.specs.Telling.{checked};
 ghost use Rattle.call_parts.specs.UsedInode.{IsUsedInode};
 
 use crate::acls::{acl_of, give_acl};
@@ -27,7 +27,7 @@ use sector_txn::Sectors;
 
 // Asks whether the caller may give the inode this owner and group.
 fn check_owner(cred: &Cred, inode: &Inode, uid: u32, gid: u32, step: usize) -> Result<(), Refusal>
-    ensures { result ≡ refused_or (first_of (owner_asked cred.now inode.now.uid inode.now.gid uid gid step)) (Ok tt) }
+    ensures { result ≡ checked (first_of (owner_asked cred.now inode.now.uid inode.now.gid uid gid step)) }
 {
     allowed_by(1, step, Need::Own, owns_or_may_chown(cred, inode.uid))?;
     allowed_by(1, step, Need::Chown, may_chown(cred, inode.uid, uid))?;
@@ -46,10 +46,7 @@ fn give_owner<S: Sectors>(
 ) -> Result<(), Refusal>
     requires loaded { IsUsedInode geometry (S.state s.old) ino inode.now }
     requires spare { HasSpare geometry 1 (S.state s.old) }
-    ensures given { OnOk result (GivesOwner geometry ino uid gid (S.state s.old).sectors (S.state s.new).sectors) }
-    ensures taken { OnOk result (TakesSpare geometry 1 (S.state s.old) (S.state s.new)) }
-    ensures store { SameStore (S.state s.old) (S.state s.new) }
-    ensures interrupts { IfErr result (Interrupts (S.state s.old).disk (S.state s.new).disk) }
+    ensures { AltersDisk geometry 1 (λ done. GivesOwner geometry ino uid gid) (S.state s.old) (S.state s.new) result }
 {
     let given = Inode { uid, gid, ..*inode };
     match save(s, geometry, ino, &given) {

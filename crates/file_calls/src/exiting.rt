@@ -1,21 +1,15 @@
 //! The end of a process: what it has open is closed.
 
-ghost use Rattle.std.specs.Prelude.{◌≡◌, Ok, IsSome, OnOk, IfErr};
+ghost use Rattle.std.specs.Prelude.{◌≡◌, Ok, IsSome};
 ghost use Rattle.std.specs.Ordering.{nat_cmp};
-ghost use Rattle.fs_layout.specs.Maps.{get, without};
-ghost use Rattle.bit_alloc.specs.declared.bitmap.Bitmap.TheVariants.{Inodes};
-ghost use Rattle.fs_model.specs.TreeChanges.{swept};
+ghost use Rattle.fs_layout.specs.Maps.{get};
 ghost use Rattle.fs_model.specs.Processes.{Descriptor as OpenFile};
-ghost use Rattle.fs_model.specs.Stands.{HoldsAll, placed};
-ghost use Rattle.fs_model.specs.States.{State};
 ghost use Rattle.open_files.specs.Tables.{open_in};
-ghost use Rattle.sector_txn.specs.Sectors.{SameStore};
+ghost use Rattle.bit_alloc.specs.declared.bitmap.Bitmap.TheVariants.{Inodes};
 ghost use Rattle.bit_alloc.specs.Bitmaps.{IsNumber};
-ghost use Rattle.bit_alloc.specs.Inodes.{IsSound};
-ghost use Rattle.bit_alloc.specs.Room.{HasSpare};
-ghost use Rattle.path_walk.specs.Answers.{FailsToRead};
-ghost use Rattle.call_parts.specs.Performing.{MayPerform, IsStateOf};
-ghost use Rattle.file_calls.specs.Exiting.{Exits, LeavesAt};
+ghost use Rattle.call_parts.specs.Altering.{MayAlter, Alters};
+ghost use Rattle.call_parts.specs.Performing.{MayPerform};
+ghost use Rattle.file_calls.specs.Exiting.{Exits, LeavesAt, LeavesAll};
 
 use call_parts::leave;
 use fs_cred::Refusal;
@@ -32,13 +26,10 @@ fn leave_descriptor<S: Sectors>(
     pid: usize,
     fd: usize,
 ) -> Result<(), Refusal>
-    requires sound { IsSound geometry (S.state s.old) }
+    requires ready { MayAlter geometry 1 (S.state s.old) }
     requires found { IsSome (get nat_cmp procs.now pid) }
     requires number { (d : OpenFile) → open_in procs.now pid fd ≡ Ok d → IsNumber geometry Inodes d.ino }
-    requires spare { HasSpare geometry 1 (S.state s.old) }
-    ensures store { SameStore (S.state s.old) (S.state s.new) }
-    ensures leaves { OnOk result (LeavesAt geometry procs.now pid fd (S.state s.old) (S.state s.new)) }
-    ensures fault { IfErr result (FailsToRead (S.state s.old).disk (S.state s.new).disk) }
+    ensures { Alters (LeavesAt geometry procs.now pid fd) (S.state s.old) (S.state s.new) result }
 {
     let descriptor = match procs.get(pid, fd) {
         Ok(descriptor) => descriptor,
@@ -57,15 +48,9 @@ fn leave_all<S: Sectors>(
     procs: &Procs,
     pid: usize,
 ) -> Result<(), Refusal>
-    requires sound { IsSound geometry (S.state s.old) }
+    requires ready { MayPerform geometry (S.state s.old) procs.now }
     requires found { IsSome (get nat_cmp procs.now pid) }
-    requires state { (st : State) × IsStateOf geometry (S.state s.old).sectors procs.now st }
-    requires spare { HasSpare geometry 47 (S.state s.old) }
-    ensures store { SameStore (S.state s.old) (S.state s.new) }
-    ensures superblock { OnOk result ((S.state s.new).sectors 0 ≡ (S.state s.old).sectors 0) }
-    ensures left { OnOk result ((st : State) → IsStateOf geometry (S.state s.old).sectors procs.now st
-        → HoldsAll geometry (S.state s.new).sectors (placed (swept st.tree (without nat_cmp procs.now pid)))) }
-    ensures fault { IfErr result (FailsToRead (S.state s.old).disk (S.state s.new).disk) }
+    ensures { Alters (LeavesAll geometry procs.now pid) (S.state s.old) (S.state s.new) result }
 {
     for fd in 0..MAX_DESCRIPTORS {
         leave_descriptor(s, geometry, procs, pid, fd)?;

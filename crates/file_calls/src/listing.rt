@@ -1,15 +1,13 @@
 //! What a directory has: POSIX.1-2017, readdir().
 
-ghost use Rattle.std.specs.Prelude.{◌≡◌, ℕ, List, [], ◌∷◌, ◌++◌, map, codes, OnOk, IfOk, IfErr};
+ghost use Rattle.std.specs.Prelude.{◌≡◌, [], ◌∷◌, ◌++◌, map, codes, OnOk, IfOk, IfErr};
+ghost use Rattle.dir_core.specs.Slots.{name_entry};
 ghost use Rattle.fs_layout.specs.Directories.{HasNames};
 ghost use Rattle.fs_model.specs.declared.call.Call.TheVariants.{Readdir};
 ghost use Rattle.fs_model.specs.Listings.{pairs};
-ghost use Rattle.dir_core.specs.Slots.{name_entry};
 ghost use Rattle.sector_txn.specs.Sectors.{IsUnchanged};
-ghost use Rattle.bit_alloc.specs.Inodes.{IsSound};
-ghost use Rattle.inode_table.specs.Inodes.{IsInodeOf};
-ghost use Rattle.path_walk.specs.Answers.{Interrupts};
 ghost use Rattle.call_parts.specs.Performing.{IsReadyFor, PerformsFor};
+ghost use Rattle.call_parts.specs.Telling.{ShowsInode, ReadsInode};
 
 use call_parts::{CallResult, Caller, OpenFor, check_is_directory, reach_open};
 use dir_core::{DirFault, list};
@@ -56,14 +54,9 @@ fn list_names<S: Sectors>(
     ino: u32,
     inode: &Inode,
 ) -> Result<Listing, Refusal>
-    requires sound { IsSound caller.now.geometry (S.state s.old) }
-    requires there { IsInodeOf caller.now.geometry (S.state s.old).sectors inode.now }
-    requires directory { (names : List (List ℕ × ℕ)) × HasNames caller.now.geometry.version (S.state s.old).sectors inode.now names }
-    ensures found { IfOk result (λ found. (names : List (List ℕ × ℕ))
-        → HasNames caller.now.geometry.version (S.state s.old).sectors inode.now names
-        → found ≡ (codes ".", ino) ∷ (codes "..", inode.now.parent) ∷ names) }
-    ensures fault { IfErr result (λ e. Interrupts (S.state s.old).disk (S.state s.new).disk e) }
-    ensures same { IsUnchanged (S.state s.old) (S.state s.new) }
+    requires { ShowsInode caller.now.geometry (S.state s.old) inode.now (HasNames caller.now.geometry.version) }
+    ensures { ReadsInode inode.now (HasNames caller.now.geometry.version)
+        (λ names. (codes ".", ino) ∷ (codes "..", inode.now.parent) ∷ names) (S.state s.old) (S.state s.new) result }
 {
     let slots = match list(caller.alloc, s, caller.geometry, inode) {
         Ok(slots) => slots,

@@ -1,19 +1,15 @@
 //! New files.
 
-ghost use Rattle.std.specs.Prelude.{◌≡◌, not, ◌||◌, Option, None, Ok, OnOk, IfOk, IfErr, MatchResult};
-ghost use Rattle.posix_acl.specs.AccessList.{AccessList};
+ghost use Rattle.std.specs.Prelude.{◌≡◌, not, ◌||◌, None};
+ghost use Rattle.fs_layout.specs.Images.{inode_at};
 ghost use Rattle.fs_model.specs.Births.{born_acl};
 ghost use Rattle.fs_model.specs.Demands.{refuse};
 ghost use Rattle.fs_model.specs.Trees.{Tree};
-ghost use Rattle.fs_layout.specs.Images.{inode_at};
-ghost use Rattle.sector_txn.specs.Sectors.{SameStore, IsUnchanged};
-ghost use Rattle.bit_alloc.specs.Inodes.{IsSound};
-ghost use Rattle.bit_alloc.specs.Room.{HasSpare, TakesSpare};
 ghost use Rattle.inode_table.specs.Acls.{HasDefaultAcl};
-ghost use Rattle.inode_table.specs.Inodes.{IsInodeOf};
-ghost use Rattle.path_walk.specs.Answers.{refused_or, FailsToRead, Interrupts};
+ghost use Rattle.call_parts.specs.Altering.{MayAlter, AltersDisk};
 ghost use Rattle.call_parts.specs.Makings.{CanMake};
 ghost use Rattle.call_parts.specs.NewNodes.{MakesNode, file_made};
+ghost use Rattle.call_parts.specs.Telling.{checked, ShowsInode, ReadsInode};
 ghost use Rattle.file_calls.specs.Openings.{MayOpen, Opens};
 
 use crate::opening::Opening;
@@ -34,13 +30,8 @@ fn new_acl<S: Sectors>(
     mode: u16,
     umask: u16,
 ) -> Result<Acl, Refusal>
-    requires sound { IsSound caller.now.geometry (S.state s.old) }
-    requires there { IsInodeOf caller.now.geometry (S.state s.old).sectors directory.now }
-    requires has { (a : Option AccessList) × HasDefaultAcl (S.state s.old).sectors directory.now a }
-    ensures born { IfOk result (λ acl. (a : Option AccessList) → HasDefaultAcl (S.state s.old).sectors directory.now a
-        → acl ≡ born_acl a mode umask) }
-    ensures err { IfErr result (Interrupts (S.state s.old).disk (S.state s.new).disk) }
-    ensures same { IsUnchanged (S.state s.old) (S.state s.new) }
+    requires { ShowsInode caller.now.geometry (S.state s.old) directory.now HasDefaultAcl }
+    ensures { ReadsInode directory.now HasDefaultAcl (λ acl. born_acl acl mode umask) (S.state s.old) (S.state s.new) result }
 {
     let default = default_of(s, caller, directory)?;
     let acl = inherited(caller.alloc, default.as_ref(), mode, umask)?;
@@ -58,15 +49,11 @@ fn make_file<S: Sectors>(
     gid: u32,
     acl: &Acl,
 ) -> Result<u32, Refusal>
-    requires sound { IsSound geometry (S.state s.old) }
+    requires ready { MayAlter geometry 47 (S.state s.old) }
     requires directory { directory ≡ inode_at geometry (S.state s.old).sectors dir_ino }
     requires may { (t : Tree) × CanMake geometry (S.state s.old).sectors t dir_ino name.now }
-    requires spare { HasSpare geometry 47 (S.state s.old) }
-    ensures store { SameStore (S.state s.old) (S.state s.new) }
-    ensures made { IfOk result (λ n. MakesNode geometry dir_ino name.now n (file_made uid gid acl.now)
-        (S.state s.old).sectors (S.state s.new).sectors) }
-    ensures taken { OnOk result (TakesSpare geometry 7 (S.state s.old) (S.state s.new)) }
-    ensures err { IfErr result (FailsToRead (S.state s.old).disk (S.state s.new).disk) }
+    ensures { AltersDisk geometry 7 (λ n. MakesNode geometry dir_ino name.now n (file_made uid gid acl.now))
+        (S.state s.old) (S.state s.new) result }
 {
     let file = Inode {
         kind: Kind::File,
@@ -84,7 +71,7 @@ fn make_file<S: Sectors>(
 
 // Asks whether what was not found may be made.
 fn check_new(flags: Flags, found: &Found) -> Result<(), Refusal>
-    ensures { result ≡ refused_or (refuse Errno.ENOENT (not flags.create || found.now.slash)) (Ok tt) }
+    ensures { result ≡ checked (refuse Errno.ENOENT (not flags.create || found.now.slash)) }
 {
     if !flags.create || found.slash {
         return Err(Refusal::Failed(Errno::ENOENT));

@@ -1,18 +1,16 @@
 //! open: POSIX.1-2017, open(), with the flags of open(2).
 
-ghost use Rattle.std.specs.Prelude.{◌≡◌, ◌<◌, ◌&&◌, ℕ, false, None, Some, Ok, OnOk, MatchResult};
+ghost use Rattle.std.specs.Prelude.{◌≡◌, ◌&&◌, false, Some, Ok, OnOk};
 ghost use Rattle.fs_layout.specs.Bytes.{IsBytes};
-ghost use Rattle.fs_model.specs.Demands.{refuse, first_of};
-ghost use Rattle.fs_model.specs.Parts.{ends_with_slash};
-ghost use Rattle.fs_model.specs.OpenCall.{open_arguments, open_form};
-ghost use Rattle.fs_model.specs.Trees.{Tree};
-ghost use Rattle.fs_model.specs.declared.call.Call.TheVariants.{Open};
 ghost use Rattle.fs_layout.specs.Images.{inode_at};
-ghost use Rattle.sector_txn.specs.Sectors.{SameStore, IsUnchanged};
-ghost use Rattle.bit_alloc.specs.Inodes.{IsSound};
-ghost use Rattle.path_walk.specs.Answers.{refused_or, IsAnswered};
-ghost use Rattle.path_walk.specs.HeldTrees.{HoldsTree, IsThere};
+ghost use Rattle.fs_model.specs.declared.call.Call.TheVariants.{Open};
+ghost use Rattle.fs_model.specs.Demands.{refuse, first_of};
+ghost use Rattle.fs_model.specs.OpenCall.{open_arguments, open_form};
+ghost use Rattle.fs_model.specs.Parts.{ends_with_slash};
+ghost use Rattle.path_walk.specs.Answers.{refused_or};
+ghost use Rattle.path_walk.specs.HeldTrees.{IsThere};
 ghost use Rattle.call_parts.specs.Performing.{MayPerform, Performs};
+ghost use Rattle.call_parts.specs.Telling.{checked, ShowsTree, TellsTree};
 ghost use Rattle.file_calls.specs.Openings.{open_asked, open_kind_asked, found_asked, MayOpen, Opens};
 
 use crate::making::open_new;
@@ -36,7 +34,7 @@ pub(crate) struct Opening {
 
 // Asks what needs neither the path nor the process.
 fn check_arguments(flags: Flags, mode: u16) -> Result<(), Refusal>
-    ensures { result ≡ refused_or (first_of (open_arguments flags mode)) (Ok tt) }
+    ensures { result ≡ checked (first_of (open_arguments flags mode)) }
 {
     if flags.create && flags.directory {
         return Err(Refusal::Failed(Errno::EINVAL));
@@ -49,7 +47,7 @@ fn check_arguments(flags: Flags, mode: u16) -> Result<(), Refusal>
 
 // Asks whether a file that may be made would be named as a directory.
 fn check_slash(flags: Flags, path: &Path) -> Result<(), Refusal>
-    ensures answer { result ≡ refused_or (refuse Errno.EISDIR (flags.create && ends_with_slash path.now)) (Ok tt) }
+    ensures answer { result ≡ checked (refuse Errno.EISDIR (flags.create && ends_with_slash path.now)) }
     ensures bytes { IsBytes path.now }
 {
     let bytes = path.bytes();
@@ -61,7 +59,7 @@ fn check_slash(flags: Flags, path: &Path) -> Result<(), Refusal>
 
 // Asks what needs neither the process nor the tree.
 fn check_open(flags: Flags, mode: u16, path: &Path) -> Result<(), Refusal>
-    ensures answer { result ≡ refused_or (first_of (open_asked flags mode path.now)) (Ok tt) }
+    ensures answer { result ≡ checked (first_of (open_asked flags mode path.now)) }
     ensures bytes { OnOk result (IsBytes path.now) }
 {
     check_arguments(flags, mode)?;
@@ -83,7 +81,7 @@ fn form_of(flags: Flags) -> Form
 
 // Asks whether what is there may be opened so, by its kind.
 fn check_kind(flags: Flags, kind: Kind) -> Result<(), Refusal>
-    ensures { result ≡ refused_or (first_of (open_kind_asked flags kind)) (Ok tt) }
+    ensures { result ≡ checked (first_of (open_kind_asked flags kind)) }
 {
     let is_directory = kind == Kind::Directory;
     if flags.create && flags.excl {
@@ -121,13 +119,10 @@ fn check_found<S: Sectors>(
     step: usize,
     flags: Flags,
 ) -> Result<Inode, Refusal>
-    requires sound { IsSound caller.now.geometry (S.state s.old) }
-    requires there { (t : Tree) × HoldsTree caller.now.geometry (S.state s.old).sectors t × IsThere t ino }
-    ensures each { (t : Tree) → HoldsTree caller.now.geometry (S.state s.old).sectors t → IsThere t ino
-        → IsAnswered (S.state s.old).disk (S.state s.new).disk
-        (refused_or (first_of (found_asked flags cred.now t ino step))
-        (Ok (inode_at caller.now.geometry (S.state s.old).sectors ino))) result }
-    ensures same { IsUnchanged (S.state s.old) (S.state s.new) }
+    requires { ShowsTree caller.now.geometry (S.state s.old) (λ t. IsThere t ino) }
+    ensures { TellsTree caller.now.geometry (λ t. IsThere t ino)
+        (λ t. refused_or (first_of (found_asked flags cred.now t ino step))
+        (Ok (inode_at caller.now.geometry (S.state s.old).sectors ino))) (S.state s.old) (S.state s.new) result }
 {
     let inode = load_inode(s, caller.geometry, ino)?;
     check_kind(flags, inode.kind)?;

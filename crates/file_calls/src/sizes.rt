@@ -1,18 +1,16 @@
 //! The size of a file: POSIX.1-2017, truncate() and ftruncate().
 
-ghost use Rattle.std.specs.Prelude.{◌≡◌, ◌<◌, ◌≤◌, nat_lt, Ok, OnOk, IfErr};
+ghost use Rattle.std.specs.Prelude.{◌≡◌, ◌<◌, ◌≤◌, nat_lt};
 ghost use Rattle.fs_cred.specs.declared.errno.Errno.TheVariants.{EFBIG};
-ghost use Rattle.fs_layout.specs.Version.{max_file_size};
 ghost use Rattle.fs_layout.specs.Bytes.{resized};
-ghost use Rattle.fs_model.specs.Demands.{refuse};
-ghost use Rattle.fs_model.specs.declared.call.Call.TheVariants.{Truncate, Ftruncate};
 ghost use Rattle.fs_layout.specs.Images.{inode_at};
-ghost use Rattle.sector_txn.specs.Sectors.{SameStore};
-ghost use Rattle.bit_alloc.specs.Inodes.{IsSound};
-ghost use Rattle.bit_alloc.specs.Room.{HasSpare, TakesSpare};
-ghost use Rattle.path_walk.specs.Answers.{refused_or, FailsToRead};
-ghost use Rattle.call_parts.specs.Performing.{IsReadyFor, PerformsFor};
+ghost use Rattle.fs_layout.specs.Version.{max_file_size};
+ghost use Rattle.fs_model.specs.declared.call.Call.TheVariants.{Truncate, Ftruncate};
+ghost use Rattle.fs_model.specs.Demands.{refuse};
+ghost use Rattle.call_parts.specs.Altering.{MayAlter, AltersDisk};
 ghost use Rattle.call_parts.specs.ByteChanges.{ChangesBytes};
+ghost use Rattle.call_parts.specs.Performing.{IsReadyFor, PerformsFor};
+ghost use Rattle.call_parts.specs.Telling.{checked};
 
 use block_map::set_size;
 use call_parts::{
@@ -32,7 +30,7 @@ const WRITE: Perms = Perms {
 
 // Refuses a size that no file on this disk has.
 fn check_size(geometry: Geometry, size: u64) -> Result<(), Refusal>
-    ensures { result ≡ refused_or (refuse EFBIG (nat_lt (max_file_size geometry.version) size)) (Ok tt) }
+    ensures { result ≡ checked (refuse EFBIG (nat_lt (max_file_size geometry.version) size)) }
 {
     refuse_if(Errno::EFBIG, size > geometry.max_file_size())
 }
@@ -45,16 +43,12 @@ pub(crate) fn give_size<S: Sectors>(
     inode: Inode,
     size: u64,
 ) -> Result<(), Refusal>
-    requires sound { IsSound geometry (S.state s.old) }
+    requires ready { MayAlter geometry 5 (S.state s.old) }
     requires below { ino < geometry.inodes }
     requires inode { inode ≡ inode_at geometry (S.state s.old).sectors ino }
     requires file { inode.kind ≡ Kind.File }
     requires fits { size ≤ max_file_size geometry.version }
-    requires spare { HasSpare geometry 5 (S.state s.old) }
-    ensures change { OnOk result (ChangesBytes geometry ino (S.state s.old) (S.state s.new) (λ held. resized held size)) }
-    ensures taken { OnOk result (TakesSpare geometry 5 (S.state s.old) (S.state s.new)) }
-    ensures store { SameStore (S.state s.old) (S.state s.new) }
-    ensures fault { IfErr result (FailsToRead (S.state s.old).disk (S.state s.new).disk) }
+    ensures { AltersDisk geometry 5 (λ done. ChangesBytes geometry ino (λ held. resized held size)) (S.state s.old) (S.state s.new) result }
 {
     let mut inode = inode;
     match set_size(s, geometry, ino, &mut inode, size) {

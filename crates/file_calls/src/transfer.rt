@@ -1,14 +1,14 @@
 //! Bytes through a descriptor: POSIX.1-2017, read() and lseek().
 
-ghost use Rattle.std.specs.Prelude.{◌≡◌, ℕ, List, min, take, drop, pos, ◌+ℤ◌, IfOk, IfErr};
+ghost use Rattle.std.specs.Prelude.{◌≡◌, min, take, drop, pos, ◌+ℤ◌};
+ghost use Rattle.block_map.specs.Blocks.{IsWithin};
+ghost use Rattle.fs_layout.specs.Images.{Holds};
 ghost use Rattle.fs_model.specs.declared.call.Call.TheVariants.{Read, Lseek};
 ghost use Rattle.fs_model.specs.DescriptorCalls.{seekable};
 ghost use Rattle.fs_model.specs.Limits.{run_limit};
-ghost use Rattle.block_map.specs.Blocks.{IsWithin};
-ghost use Rattle.fs_layout.specs.Images.{Holds};
 ghost use Rattle.sector_txn.specs.Sectors.{IsUnchanged};
-ghost use Rattle.path_walk.specs.Answers.{Interrupts};
 ghost use Rattle.call_parts.specs.Performing.{MayPerform, Performs};
+ghost use Rattle.call_parts.specs.Telling.{ReadsInode};
 
 use block_map::read_at;
 use call_parts::{Asker, CallResult, OpenFor, check_no_directory, reach_open};
@@ -34,10 +34,7 @@ fn read_bytes<S: Sectors>(
     len: usize,
 ) -> Result<Bytes, Refusal>
     requires within { IsWithin (S.state s.old).header (S.state s.old).disk.size (S.state s.old).sectors inode.now }
-    ensures found { IfOk result (λ read. (bytes : List ℕ) → Holds (S.state s.old).sectors inode.now bytes
-        → read ≡ take (min len run_limit) (drop offset bytes)) }
-    ensures fault { IfErr result (λ e. Interrupts (S.state s.old).disk (S.state s.new).disk e) }
-    ensures same { IsUnchanged (S.state s.old) (S.state s.new) }
+    ensures { ReadsInode inode.now Holds (λ bytes. take (min len run_limit) (drop offset bytes)) (S.state s.old) (S.state s.new) result }
 {
     let count = len
         .min(MAX_RUN)

@@ -1,18 +1,15 @@
 //! write: POSIX.1-2017, write().
 
-ghost use Rattle.std.specs.Prelude.{◌≡◌, ◌+◌, ◌-◌, ◌<◌, ◌≤◌, length, min, if◌then◌else◌, OnOk, IfErr};
+ghost use Rattle.std.specs.Prelude.{◌≡◌, ◌+◌, ◌-◌, ◌<◌, ◌≤◌, length, min, if◌then◌else◌};
 ghost use Rattle.fs_layout.specs.declared.inode.Kind.TheVariants.{File};
-ghost use Rattle.fs_layout.specs.Version.{max_file_size};
 ghost use Rattle.fs_layout.specs.Bytes.{overwritten};
-ghost use Rattle.fs_model.specs.Limits.{free_for, write_limit};
-ghost use Rattle.fs_model.specs.declared.call.Call.TheVariants.{Write};
 ghost use Rattle.fs_layout.specs.Images.{inode_at, free_sectors};
-ghost use Rattle.sector_txn.specs.Sectors.{SameStore};
-ghost use Rattle.bit_alloc.specs.Inodes.{IsSound};
-ghost use Rattle.bit_alloc.specs.Room.{HasSpare, TakesSpare};
-ghost use Rattle.path_walk.specs.Answers.{FailsToRead};
-ghost use Rattle.call_parts.specs.Performing.{MayPerform, Performs};
+ghost use Rattle.fs_layout.specs.Version.{max_file_size};
+ghost use Rattle.fs_model.specs.declared.call.Call.TheVariants.{Write};
+ghost use Rattle.fs_model.specs.Limits.{free_for, write_limit};
+ghost use Rattle.call_parts.specs.Altering.{MayAlter, AltersDisk};
 ghost use Rattle.call_parts.specs.ByteChanges.{ChangesBytes};
+ghost use Rattle.call_parts.specs.Performing.{MayPerform, Performs};
 
 use block_map::{MAX_WRITE, write_at};
 use call_parts::{Asker, CallResult, OpenFor, ask_to_write, find_open, touch};
@@ -41,18 +38,15 @@ fn write_bytes<S: Sectors>(
     offset: u64,
     bytes: &[u8],
 ) -> Result<(), Refusal>
-    requires sound { IsSound geometry (S.state s.old) }
+    requires ready { MayAlter geometry 47 (S.state s.old) }
     requires below { ino < geometry.inodes }
     requires inode { inode ≡ inode_at geometry (S.state s.old).sectors ino }
     requires file { inode.kind ≡ File }
     requires few { length bytes.now ≤ write_limit }
     requires fits { offset + length bytes.now ≤ max_file_size geometry.version }
     requires space { free_for (length bytes.now) ≤ free_sectors geometry (S.state s.old).sectors }
-    requires spare { HasSpare geometry 47 (S.state s.old) }
-    ensures store { SameStore (S.state s.old) (S.state s.new) }
-    ensures change { OnOk result (ChangesBytes geometry ino (S.state s.old) (S.state s.new) (λ held. overwritten held offset bytes.now)) }
-    ensures taken { OnOk result (TakesSpare geometry 40 (S.state s.old) (S.state s.new)) }
-    ensures err { IfErr result (FailsToRead (S.state s.old).disk (S.state s.new).disk) }
+    ensures { AltersDisk geometry 40 (λ done. ChangesBytes geometry ino (λ held. overwritten held offset bytes.now))
+        (S.state s.old) (S.state s.new) result }
 {
     let mut inode = inode;
     match write_at(s, geometry, ino, &mut inode, offset, bytes) {

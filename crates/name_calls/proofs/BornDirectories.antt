@@ -35,7 +35,8 @@ use Rattle.fs_model.specs.Scenes.{must_be_new, check_of_mode}
 use Rattle.fs_model.specs.States.{State}
 use Rattle.fs_model.proofs.StepsMaking.{directory_is_born}
 use Rattle.fs_model.proofs.StepsOfMaking.{is_new_if}
-use Rattle.call_parts.specs.Reaching.{Checked, checked, WalksPath}
+use Rattle.call_parts.specs.Telling.{Checked, checked}
+use Rattle.call_parts.specs.Reaching.{WalksPath}
 use Rattle.path_walk.specs.Answers.{refused_or}
 use Rattle.call_parts.specs.Paths.{scene_at, HasFound}
 use Rattle.call_parts.specs.Performing.{IsStateOf}

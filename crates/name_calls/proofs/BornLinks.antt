@@ -38,7 +38,8 @@ use Rattle.fs_model.specs.Trees.{IsTarget}
 use Rattle.fs_model.proofs.StepsDemands.{first_met, then_met}
 use Rattle.fs_model.proofs.StepsMaking.{link_is_born}
 use Rattle.fs_model.proofs.StepsOfMaking.{is_new_if, target_is}
-use Rattle.call_parts.specs.Reaching.{Checked, checked, WalksPath}
+use Rattle.call_parts.specs.Telling.{Checked, checked}
+use Rattle.call_parts.specs.Reaching.{WalksPath}
 use Rattle.path_walk.specs.Answers.{refused_or}
 use Rattle.call_parts.specs.Paths.{scene_at, HasFound}
 use Rattle.call_parts.specs.Performing.{IsStateOf}

@@ -37,7 +37,8 @@ use Rattle.sector_txn.specs.Sectors.{TxnState, IsUnchanged}
 use Rattle.call_parts.proofs.Followed.{IsAccessed, accessed_is}
 use Rattle.call_parts.proofs.MakeAsked.{dir_access, dir_held}
 use Rattle.call_parts.proofs.Ownership.{IsNode, node_of}
-use Rattle.call_parts.specs.Reaching.{WalksPath, IsInodeFound, checked}
+use Rattle.call_parts.specs.Reaching.{WalksPath, IsInodeFound}
+use Rattle.call_parts.specs.Telling.{checked}
 use Rattle.name_calls.specs.Entering.{enter_asked}
 
 -- ---- its row

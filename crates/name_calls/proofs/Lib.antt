@@ -1,4 +1,3 @@
-pub mod Alterings
 pub mod BornDirectories
 pub mod BornLinks
 pub mod Droppings
@@ -17,3 +16,4 @@ pub mod ReplaceAsked
 pub mod Takings
 pub mod Targets
 pub mod Upward
+pub mod Walkings

@@ -37,7 +37,8 @@ use Rattle.call_parts.specs.TwoPaths.{scene_with, FindsBoth}
 use Rattle.call_parts.proofs.FoundBoth.{first_there}
 use Rattle.name_calls.proofs.RemovalAsked.{body_kind_is}
 use Rattle.name_calls.proofs.Takings.{field_is}
-use Rattle.call_parts.specs.Reaching.{checked, IsInodeFound}
+use Rattle.call_parts.specs.Telling.{checked}
+use Rattle.call_parts.specs.Reaching.{IsInodeFound}
 
 -- ---- all of the directory
 

@@ -51,16 +51,15 @@ use Rattle.path_walk.proofs.Kept.{kept}
 use Rattle.call_parts.proofs.Changed.{IsChange}
 use Rattle.call_parts.proofs.Shown.{the_node_is}
 use Rattle.call_parts.specs.Dropping.{Counts}
-use Rattle.name_calls.specs.Altering.{HoldsChange}
+use Rattle.call_parts.specs.Altering.{HoldsChange}
 use Rattle.name_calls.specs.Linking.{source_asked, MayLink, MayLinkAt}
 use Rattle.call_parts.specs.NewNodes.{MayBeNamed, NamesInode, link_name_asked}
 use Rattle.call_parts.specs.TwoPaths.{scene_with, FindsBoth}
 use Rattle.name_calls.proofs.BornLinks.{is_link_name}
-use Rattle.call_parts.specs.Reaching.{WalksBoth}
+use Rattle.call_parts.specs.Reaching.{WalksBoth, IsInodeFound}
 use Rattle.call_parts.proofs.FoundBoth.{second_walked}
 use Rattle.name_calls.proofs.LinkAsked.{source_inode, source_node, source_kind, source_names}
 use Rattle.name_calls.proofs.Takings.{field_is}
-use Rattle.call_parts.specs.Reaching.{IsInodeFound}
 
 -- ---- the row
 

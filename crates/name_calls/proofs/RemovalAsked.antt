@@ -36,7 +36,8 @@ use Rattle.path_walk.specs.HeldTrees.{HoldsTree}
 use Rattle.call_parts.proofs.Calling.{or_else-none, both_met}
 use Rattle.call_parts.proofs.Refuses.{Refuses, refuses_first, refuses_next, demand_met}
 use Rattle.path_walk.proofs.HeldNodes.{held_node}
-use Rattle.call_parts.specs.Reaching.{checked, IsInodeFound}
+use Rattle.call_parts.specs.Telling.{checked}
+use Rattle.call_parts.specs.Reaching.{IsInodeFound}
 use Rattle.call_parts.proofs.Ownership.{IsNode, node_of}
 use Rattle.call_parts.proofs.Shown.{body_kind, the_node_is}
 use Rattle.name_calls.specs.Removing.{IsNamedThere, removal_asked, directory_asked}

@@ -40,7 +40,8 @@ use Rattle.fs_model.proofs.StepsOfRemoving.{empty_if}
 use Rattle.path_walk.specs.Answers.{refused_or}
 use Rattle.call_parts.specs.Paths.{scene_at, HasFound}
 use Rattle.call_parts.specs.Performing.{IsStateOf}
-use Rattle.call_parts.specs.Reaching.{WalksPath, checked, IsInodeFound}
+use Rattle.call_parts.specs.Reaching.{WalksPath, IsInodeFound}
+use Rattle.call_parts.specs.Telling.{checked}
 use Rattle.call_parts.proofs.Calling.{state_tree, state_kept, found_there, first_of-append, met_ok}
 use Rattle.call_parts.proofs.Changed.{IsChange}
 use Rattle.call_parts.proofs.Ownership.{IsNode, node_of, all_met}
@@ -48,7 +49,7 @@ use Rattle.call_parts.proofs.Refuses.{Refuses, refuses_some, refuses_others, dem
 use Rattle.call_parts.proofs.Shown.{is_inode}
 use Rattle.name_calls.specs.declared.removal.Target.{Target}
 use Rattle.name_calls.specs.declared.removal.Target.TheVariants as targets
-use Rattle.name_calls.specs.Altering.{HoldsChange}
+use Rattle.call_parts.specs.Altering.{HoldsChange}
 use Rattle.name_calls.specs.Removing.{FindsName, IsNamedThere, removal_asked, last_asked, directory_asked, kind_asked, target_asked, removal_demands, removal_call, MayGo, MayGoAt}
 
 -- ---- the rows

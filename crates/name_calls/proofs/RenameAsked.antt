@@ -23,7 +23,8 @@ use Rattle.call_parts.proofs.Refuses.{Refuses, refuses_first, refuses_next, refu
 use Rattle.path_walk.proofs.HeldNodes.{stands, held_kind}
 use Rattle.path_walk.proofs.Kept.{answer, kept_back, same_ok}
 use Rattle.sector_txn.specs.Sectors.{TxnState, IsUnchanged}
-use Rattle.call_parts.specs.Reaching.{checked, IsInodeFound}
+use Rattle.call_parts.specs.Telling.{checked}
+use Rattle.call_parts.specs.Reaching.{IsInodeFound}
 use Rattle.call_parts.proofs.Ownership.{all_met}
 use Rattle.call_parts.proofs.Shown.{the_node_is}
 use Rattle.name_calls.specs.Renaming.{ends_asked, is_other, slash_asked, names_asked, kinds_asked, inode_there, other_kind, directory_kind, slash_told, replacing_asked}

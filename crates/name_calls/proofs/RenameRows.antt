@@ -46,7 +46,7 @@ use Rattle.call_parts.proofs.Changed.{IsChange}
 use Rattle.call_parts.proofs.Ownership.{all_met}
 use Rattle.call_parts.proofs.Refuses.{Refuses, refuses_some, refuses_others}
 use Rattle.call_parts.proofs.Shown.{number_of, the_node_is}
-use Rattle.name_calls.specs.Altering.{HoldsChange}
+use Rattle.call_parts.specs.Altering.{HoldsChange}
 use Rattle.name_calls.specs.Moving.{MayMove, MayMoveTo, renamed_touches}
 use Rattle.name_calls.specs.Removing.{IsNamedThere}
 use Rattle.name_calls.specs.Renaming.{BothThere, names_asked, inode_there}

@@ -50,7 +50,8 @@ use Rattle.call_parts.proofs.Followed.{accessed_is}
 use Rattle.call_parts.proofs.MakeAsked.{dir_access, dir_held, directory_met}
 use Rattle.call_parts.proofs.Ownership.{IsNode, node_of, all_met}
 use Rattle.call_parts.proofs.Refuses.{Refuses, refuses_first, refuses_next, refuses_some, refuses_others, demand_met}
-use Rattle.call_parts.specs.Reaching.{checked, IsInodeFound}
+use Rattle.call_parts.specs.Telling.{checked}
+use Rattle.call_parts.specs.Reaching.{IsInodeFound}
 use Rattle.call_parts.specs.Makings.{room_asked}
 use Rattle.call_parts.specs.Asked.{sticky_asked}
 use Rattle.name_calls.specs.Removing.{directory_asked}

@@ -1,4 +1,3 @@
-pub mod Altering
 pub mod Dropping
 pub mod Entering
 pub mod Enters
@@ -8,4 +7,4 @@ pub mod Moving
 pub mod Removing
 pub mod Renaming
 pub mod Replacing
-pub mod Telling
+pub mod Walking

@@ -26,7 +26,7 @@ use Rattle.fs_model.specs.States.{State}
 use Rattle.fs_model.specs.Trees.{Tree, node_at, IsDirectoryAt}
 use Rattle.call_parts.specs.Paths.{HasFound}
 use Rattle.call_parts.specs.Performing.{IsStateOf}
-use Rattle.name_calls.specs.Telling.{FoundThere}
+use Rattle.call_parts.specs.Telling.{FoundThere}
 use Rattle.name_calls.specs.declared.removal.Target.{Target}
 use Rattle.name_calls.specs.declared.removal.Target.TheVariants.{NoDirectory, Directory}
 

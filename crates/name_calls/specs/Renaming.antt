@@ -18,7 +18,7 @@ use Rattle.fs_model.specs.Nodes.{is_directory}
 use Rattle.fs_model.specs.Rules.{is_directory_kind}
 use Rattle.fs_model.specs.Scenes.{is_found, found_ino, ends_top, ends_dot, ends_dot_dot, must_be_there}
 use Rattle.fs_model.specs.Trees.{Tree}
-use Rattle.name_calls.specs.Telling.{FoundThere}
+use Rattle.call_parts.specs.Telling.{FoundThere}
 
 pub record BothThere (f g : Found) (t : Tree) : Type 0 where
   pub first : FoundThere f t

@@ -1,5 +1,6 @@
 -- What rename asks of directories, and of what it replaces.
---     IsToRename        both names, with what they lead to
+--     IsToRename, Renames        both names, with what they lead to, as a caller's walks have found them
+--     AreRenamed        whatever they lead to
 --     same_number        the new name leads to what is renamed
 --     sticky_there        what S_ISVTX asks, where something is replaced
 --     below_asked, replaced_asked        asked of a directory that goes to another, and of what is replaced
@@ -23,6 +24,8 @@ use Rattle.fs_model.specs.Rules.{is_directory_kind}
 use Rattle.fs_model.specs.Scenes.{Scene, is_found, found_ino}
 use Rattle.fs_model.specs.States.{State}
 use Rattle.fs_model.specs.Trees.{Tree, is_within}
+use Rattle.call_parts.specs.declared.caller.Caller.{Caller}
+use Rattle.call_parts.specs.declared.reaching.WalkedBoth.{WalkedBoth}
 use Rattle.call_parts.specs.Performing.{IsStateOf}
 use Rattle.name_calls.specs.Removing.{IsNamedThere}
 use Rattle.call_parts.specs.Asked.{sticky_asked}
@@ -36,6 +39,12 @@ pub record IsToRename (p : Geometry) (map : SectorMap) (processes : ProcessTable
   pub leads : f.ino ≡ Some n
   pub inode : v ≡ inode_at p map n
   pub replaced_is : replaced ≡ inode_there p map g.ino
+
+abbrev pub Renames : Caller → SectorMap → WalkedBoth → ℕ → Inode → Option (ℕ × Inode) → State → Type 0
+Renames c map w n v replaced s = IsToRename c.geometry map c.procs.now w.first w.second n v replaced s
+
+abbrev pub AreRenamed : Caller → SectorMap → WalkedBoth → State → Type 0
+AreRenamed c map w s = (n : ℕ) × (v : Inode) × (there : Option (ℕ × Inode)) × Renames c map w n v there s
 
 -- what is replaced is n itself
 abbrev pub same_number : ℕ → Option (ℕ × Inode) → Bool

@@ -1,11 +1,10 @@
 //! Directories: POSIX.1-2017, mkdir() and chdir().
 
-ghost use Rattle.std.specs.Prelude.{◌≡◌, ◌≢◌, ◌≤◌, ◌+◌, ◌/◌, ◌%◌, ◌<◌, ◌==◌, ℕ, cond, not, Some, Ok, option_copied, Err, IfOk, IfErr, IsSome};
+ghost use Rattle.std.specs.Prelude.{◌≡◌, ◌≢◌, ◌≤◌, ◌+◌, ◌/◌, ◌%◌, ◌<◌, ◌==◌, ℕ, cond, not, Ok, option_copied, Err, IfOk, IfErr, IsSome};
 ghost use Rattle.std.specs.Ordering.{nat_cmp};
 ghost use Rattle.fs_layout.specs.Maps.{get};
 ghost use Rattle.fs_layout.specs.Images.{inode_at};
 ghost use Rattle.sector_txn.specs.Sectors.{IsUnchanged};
-ghost use Rattle.bit_alloc.specs.Inodes.{IsSound};
 ghost use Rattle.fs_model.specs.declared.reply.Reply.TheVariants.{Done};
 ghost use Rattle.fs_model.specs.Processes.{ProcessTable, standing_at};
 ghost use Rattle.open_files.specs.Tables.{with_changed};
@@ -13,15 +12,15 @@ ghost use Rattle.fs_model.specs.Births.{born_directory, the_node};
 ghost use Rattle.fs_model.specs.Demands.{refuse, first_of};
 ghost use Rattle.fs_model.specs.Scenes.{found_ino, must_be_new};
 ghost use Rattle.fs_model.specs.Trees.{Tree};
-ghost use Rattle.path_walk.specs.Answers.{refused_or, IsAnswered};
-ghost use Rattle.path_walk.specs.HeldTrees.{HoldsTree, IsThere};
+ghost use Rattle.path_walk.specs.Answers.{refused_or};
 ghost use Rattle.fs_model.specs.declared.call.Call.TheVariants.{Mkdir, Chdir};
 ghost use Rattle.call_parts.specs.Performing.{MayPerform, Performs, IsReadyFor, PerformsFor};
 ghost use Rattle.call_parts.specs.Makings.{CanMake};
-ghost use Rattle.name_calls.specs.Altering.{MayAlter, AltersDisk};
+ghost use Rattle.call_parts.specs.Altering.{MayAlter, AltersDisk};
 ghost use Rattle.name_calls.specs.Entering.{enter_asked};
 ghost use Rattle.name_calls.specs.Making.{HasNewName, Makes};
 ghost use Rattle.call_parts.specs.NewNodes.{MakesNode, directory_made};
+ghost use Rattle.call_parts.specs.Telling.{checked, ShowsTree, TellsTree, FoundThere};
 
 use call_parts::{
     Asker, CallResult, Caller, Walked, check_is_directory, check_make, check_mode, default_of,
@@ -124,7 +123,7 @@ fn make_directory<S: Sectors>(
 
 // Asks whether nothing was found where something is to be made.
 fn check_new(found: &Found) -> Result<(), Refusal>
-    ensures { result ≡ refused_or (must_be_new found.now) (Ok tt) }
+    ensures { result ≡ checked (must_be_new found.now) }
 {
     if !is_new(found) {
         return Err(Refusal::Failed(Errno::EEXIST));
@@ -156,14 +155,9 @@ fn directory_found<S: Sectors>(
     cred: &Cred,
     found: &Found,
 ) -> Result<u32, Refusal>
-    requires sound { IsSound caller.now.geometry (S.state s.old) }
-    requires there { (t : Tree) × HoldsTree caller.now.geometry (S.state s.old).sectors t
-        × ((n : ℕ) → found.now.ino ≡ Some n → IsThere t n) }
-    ensures each { (t : Tree) → HoldsTree caller.now.geometry (S.state s.old).sectors t
-        → ((n : ℕ) → found.now.ino ≡ Some n → IsThere t n)
-        → IsAnswered (S.state s.old).disk (S.state s.new).disk
-        (refused_or (first_of (enter_asked cred.now t found.now)) (Ok (found_ino found.now))) result }
-    ensures same { IsUnchanged (S.state s.old) (S.state s.new) }
+    requires { ShowsTree caller.now.geometry (S.state s.old) (FoundThere found.now) }
+    ensures { TellsTree caller.now.geometry (FoundThere found.now)
+        (λ t. refused_or (first_of (enter_asked cred.now t found.now)) (Ok (found_ino found.now))) (S.state s.old) (S.state s.new) result }
 {
     let (ino, inode) = inode_found(s, caller.geometry, found)?;
     check_is_directory(inode.kind)?;

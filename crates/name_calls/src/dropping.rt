@@ -1,9 +1,8 @@
 //! What becomes of a node that loses a name: POSIX.1-2017, unlink().
 
-ghost use Rattle.std.specs.Prelude.{◌≡◌, OnOk, IfErr};
-ghost use Rattle.sector_txn.specs.Sectors.{SameStore};
+ghost use Rattle.std.specs.Prelude.{◌≡◌};
 ghost use Rattle.fs_model.specs.Processes.{is_open};
-ghost use Rattle.path_walk.specs.Answers.{FailsToRead};
+ghost use Rattle.call_parts.specs.Altering.{Alters};
 ghost use Rattle.name_calls.specs.Dropping.{MayLoseName, LosesName, stays_with};
 
 use call_parts::{drop_node, set_names};
@@ -29,9 +28,7 @@ pub(crate) fn lose_name<S: Sectors>(
     inode: &Inode,
 ) -> Result<(), Refusal>
     requires { MayLoseName geometry (S.state s.old) ino inode.now }
-    ensures store { SameStore (S.state s.old) (S.state s.new) }
-    ensures loses { OnOk result (LosesName geometry ino (is_open procs.now ino) (S.state s.old) (S.state s.new)) }
-    ensures fault { IfErr result (FailsToRead (S.state s.old).disk (S.state s.new).disk) }
+    ensures { Alters (LosesName geometry ino (is_open procs.now ino)) (S.state s.old) (S.state s.new) result }
 {
     let names = inode.names - 1;
     let stays = stays(procs, ino, inode.kind, names);

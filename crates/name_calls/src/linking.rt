@@ -1,6 +1,6 @@
 //! More names for what is there: POSIX.1-2017, link().
 
-ghost use Rattle.std.specs.Prelude.{◌≡◌, ◌-◌, ◌<◌, nat_le, [], ◌∷◌, not, ◌&&◌, Ok};
+ghost use Rattle.std.specs.Prelude.{◌≡◌, ◌-◌, ◌<◌, nat_le, ℕ, List, [], ◌∷◌, not, ◌&&◌, Ok};
 ghost use Rattle.fs_layout.specs.Images.{inode_at};
 ghost use Rattle.fs_layout.specs.Version.{max_inode_names};
 ghost use Rattle.fs_model.specs.TreeChanges.{AddName};
@@ -12,10 +12,10 @@ ghost use Rattle.fs_model.specs.Trees.{IsDirectoryAt};
 ghost use Rattle.path_walk.specs.Answers.{refused_or};
 ghost use Rattle.fs_model.specs.declared.call.Call.TheVariants.{Link};
 ghost use Rattle.call_parts.specs.Performing.{IsReadyFor, PerformsFor};
-ghost use Rattle.name_calls.specs.Altering.{AltersDisk, HoldsChange};
+ghost use Rattle.call_parts.specs.Altering.{AltersDisk, HoldsChange};
 ghost use Rattle.name_calls.specs.Linking.{source_asked, place_asked, MayLinkAt};
-ghost use Rattle.name_calls.specs.Telling.{ShowsTree, HasState, TellsTree, TellsState, FoundThere, FindsWalked};
-ghost use Rattle.call_parts.specs.TwoPaths.{scene_with};
+ghost use Rattle.name_calls.specs.Walking.{WalksTo};
+ghost use Rattle.call_parts.specs.Telling.{checked, ShowsTree, HasState, TellsTree, TellsOf, FoundThere, FindsWalked, scene_walked};
 
 use crate::links::check_link_name;
 use call_parts::{
@@ -30,7 +30,7 @@ use sector_txn::Sectors;
 
 // Asks whether a path ends in a name.
 fn check_last(found: &Found) -> Result<(), Refusal>
-    ensures { result ≡ refused_or (first_of (refuse Errno.EPERM (is_special found.now) ∷ [])) (Ok tt) }
+    ensures { result ≡ checked (first_of (refuse Errno.EPERM (is_special found.now) ∷ [])) }
 {
     match found.last {
         Last::Name => Ok(()),
@@ -40,9 +40,9 @@ fn check_last(found: &Found) -> Result<(), Refusal>
 
 // Asks whether what was found is no directory, and wasn't named as one.
 fn check_kind(found: &Found, kind: Kind) -> Result<(), Refusal>
-    ensures { result ≡ refused_or (first_of
+    ensures { result ≡ checked (first_of
         (refuse Errno.ENOTDIR (found.now.slash && not (is_directory_kind kind))
-        ∷ refuse Errno.EPERM (is_directory_kind kind) ∷ [])) (Ok tt) }
+        ∷ refuse Errno.EPERM (is_directory_kind kind) ∷ [])) }
 {
     check_slash(found, kind)?;
     if kind == Kind::Directory {
@@ -70,7 +70,7 @@ fn check_source<S: Sectors>(
 
 // Asks whether what has so many names may have one more.
 fn check_count(geometry: Geometry, names: u32) -> Result<(), Refusal>
-    ensures { result ≡ refused_or (refuse Errno.EMLINK (nat_le (max_inode_names geometry.version) names)) (Ok tt) }
+    ensures { result ≡ checked (refuse Errno.EMLINK (nat_le (max_inode_names geometry.version) names)) }
 {
     let most = geometry.version.max_inode_names();
     if names >= most {
@@ -109,9 +109,9 @@ fn check_link<S: Sectors>(
     walked: &WalkedBoth,
 ) -> Result<(u32, Inode, Inode), Refusal>
     requires { HasState caller.now.geometry (S.state s.old) (FindsWalked caller.now (S.state s.old).sectors walked.now) }
-    ensures { TellsState (FindsWalked caller.now (S.state s.old).sectors walked.now)
+    ensures { TellsOf (FindsWalked caller.now (S.state s.old).sectors walked.now)
         (λ st. refused_or (first_of (link_demands
-        (scene_with st walked.now.process.now walked.now.first walked.now.second)))
+        (scene_walked walked.now st)))
         (Ok (
           found_ino walked.now.first,
           inode_at caller.now.geometry (S.state s.old).sectors (found_ino walked.now.first),
@@ -150,6 +150,22 @@ fn add_name<S: Sectors>(
     Ok(())
 }
 
+// Names what the first path has led to, as the second ends.
+fn link_walked<S: Sectors>(s: &mut S, caller: &Caller, walked: &WalkedBoth) -> CallResult
+    requires { (old : List ℕ) × (new : List ℕ) × WalksTo caller.now (S.state s.old) walked.now old new }
+    ensures { (old new : List ℕ) → WalksTo caller.now (S.state s.old) walked.now old new
+        → PerformsFor caller.now (Link old new) (S.state s.old) (S.state s.new) result }
+{
+    let (ino, inode, directory) = check_link(s, caller, walked)?;
+    add_name(s, caller, &walked.second, directory, ino, &inode)?;
+    let touches = [
+        (walked.second.dir_ino, Touch::Modified),
+        (ino, Touch::Changed),
+    ];
+    touch(s, caller.geometry, caller.time, &touches)?;
+    Ok(Reply::Done)
+}
+
 /// Gives what the path `old` leads to the name that the path `new` ends in, too: a file, or a symbolic link itself.
 ///
 /// EPERM: `old` leads to a directory, or ends in no name. ENOENT: it leads to nothing, or `new` ends in a slash. ENOTDIR: `old`
@@ -160,12 +176,5 @@ pub fn link<S: Sectors>(s: &mut S, caller: &Caller, old: &Path, new: &Path) -> C
     ensures { PerformsFor caller.now (Link old.now new.now) (S.state s.old) (S.state s.new) result }
 {
     let walked = walk_both(s, caller, old, new)?;
-    let (ino, inode, directory) = check_link(s, caller, &walked)?;
-    add_name(s, caller, &walked.second, directory, ino, &inode)?;
-    let touches = [
-        (walked.second.dir_ino, Touch::Modified),
-        (ino, Touch::Changed),
-    ];
-    touch(s, caller.geometry, caller.time, &touches)?;
-    Ok(Reply::Done)
+    link_walked(s, caller, &walked)
 }

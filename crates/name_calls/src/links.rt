@@ -1,6 +1,6 @@
 //! Symbolic links: POSIX.1-2017, symlink() and readlink().
 
-ghost use Rattle.std.specs.Prelude.{◌≡◌, not, Ok};
+ghost use Rattle.std.specs.Prelude.{◌≡◌, not};
 ghost use Rattle.fs_layout.specs.Bytes.{IsBytes};
 ghost use Rattle.fs_layout.specs.Images.{inode_at};
 ghost use Rattle.sector_txn.specs.Sectors.{IsUnchanged};
@@ -9,12 +9,12 @@ ghost use Rattle.fs_model.specs.Demands.{refuse, first_of};
 ghost use Rattle.fs_model.specs.NameCalls.{symlink_arguments};
 ghost use Rattle.fs_model.specs.Summaries.{is_link_kind};
 ghost use Rattle.fs_model.specs.Trees.{Tree, IsTarget};
-ghost use Rattle.path_walk.specs.Answers.{refused_or};
 ghost use Rattle.fs_model.specs.declared.call.Call.TheVariants.{Symlink, Readlink};
 ghost use Rattle.call_parts.specs.Performing.{IsReadyFor, PerformsFor};
 ghost use Rattle.call_parts.specs.Makings.{CanMake};
 ghost use Rattle.call_parts.specs.NewNodes.{MakesNode, link_made, link_name_asked};
-ghost use Rattle.name_calls.specs.Altering.{MayAlter, AltersDisk};
+ghost use Rattle.call_parts.specs.Altering.{MayAlter, AltersDisk};
+ghost use Rattle.call_parts.specs.Telling.{checked};
 ghost use Rattle.name_calls.specs.Making.{HasNewName, Makes};
 
 use block_map::new_link;
@@ -29,7 +29,7 @@ use sector_txn::Sectors;
 
 // Asks whether these bytes may be a target: at least one, none of them zero, and no more than 512.
 fn check_target(target: &Path) -> Result<(), Refusal>
-    ensures answer { result ≡ refused_or (first_of (symlink_arguments target.now)) (Ok tt) }
+    ensures answer { result ≡ checked (first_of (symlink_arguments target.now)) }
     ensures bytes { IsBytes target.now }
 {
     let bytes = target.bytes();
@@ -47,7 +47,7 @@ fn check_target(target: &Path) -> Result<(), Refusal>
 
 /// Asks whether nothing was found where a link is to be made, and whether its name has no slash behind it.
 pub(crate) fn check_link_name(found: &Found) -> Result<(), Refusal>
-    ensures { result ≡ refused_or (first_of (link_name_asked found.now)) (Ok tt) }
+    ensures { result ≡ checked (first_of (link_name_asked found.now)) }
 {
     if !is_new(found) {
         return Err(Refusal::Failed(Errno::EEXIST));
@@ -123,7 +123,7 @@ pub fn symlink<S: Sectors>(s: &mut S, caller: &Caller, target: &Path, path: &Pat
 
 // Asks whether an inode is that of a symbolic link.
 fn check_link(inode: &Inode) -> Result<(), Refusal>
-    ensures { result ≡ refused_or (refuse Errno.EINVAL (not (is_link_kind inode.now.kind))) (Ok tt) }
+    ensures { result ≡ checked (refuse Errno.EINVAL (not (is_link_kind inode.now.kind))) }
 {
     if inode.kind != Kind::Link {
         return Err(Refusal::Failed(Errno::EINVAL));

@@ -1,16 +1,14 @@
 //! Moving names: what rename() changes.
 
-ghost use Rattle.std.specs.Prelude.{◌≡◌, None, OnOk, IfErr};
+ghost use Rattle.std.specs.Prelude.{◌≡◌, None};
 ghost use Rattle.fs_layout.specs.Images.{inode_at};
-ghost use Rattle.sector_txn.specs.Sectors.{SameStore};
 ghost use Rattle.bit_alloc.specs.Room.{HasSpare};
 ghost use Rattle.fs_model.specs.TreeChanges.{MoveName};
-ghost use Rattle.path_walk.specs.Answers.{FailsToRead};
 ghost use Rattle.call_parts.specs.Performing.{IsReadyFor};
 ghost use Rattle.call_parts.specs.NewNodes.{NamesInode};
 ghost use Rattle.call_parts.specs.UsedInode.{IsUsedInode};
 ghost use Rattle.call_parts.specs.Times.{MayMoveTimes, MovesTimes};
-ghost use Rattle.name_calls.specs.Altering.{MayAlter, AltersDisk, HoldsChange};
+ghost use Rattle.call_parts.specs.Altering.{MayAlter, AltersDisk, Alters, HoldsChange};
 ghost use Rattle.name_calls.specs.Moving.{MayMoveTo, MayLead, MovesEntryTo, ParentFollows, renamed_touches};
 ghost use Rattle.name_calls.specs.Renaming.{inode_there};
 
@@ -170,10 +168,8 @@ pub(crate) fn touch_moved<S: Sectors>(
 ) -> Result<(), Refusal>
     requires { MayMoveTimes caller.now.geometry
         (renamed_touches walked.now.first.dir_ino walked.now.second.dir_ino ino walked.now.second.ino) (S.state s.old) }
-    ensures store { SameStore (S.state s.old) (S.state s.new) }
-    ensures moved { OnOk result (MovesTimes caller.now.geometry caller.now.time
-        (renamed_touches walked.now.first.dir_ino walked.now.second.dir_ino ino walked.now.second.ino) (S.state s.old) (S.state s.new)) }
-    ensures fault { IfErr result (FailsToRead (S.state s.old).disk (S.state s.new).disk) }
+    ensures { Alters (MovesTimes caller.now.geometry caller.now.time
+        (renamed_touches walked.now.first.dir_ino walked.now.second.dir_ino ino walked.now.second.ino)) (S.state s.old) (S.state s.new) result }
 {
     let dir_ino = walked.first.dir_ino;
     let to_dir_ino = walked.second.dir_ino;

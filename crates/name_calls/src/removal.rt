@@ -1,6 +1,6 @@
 //! Removing names: POSIX.1-2017, unlink() and rmdir().
 
-ghost use Rattle.std.specs.Prelude.{◌≡◌, Ok};
+ghost use Rattle.std.specs.Prelude.{◌≡◌, ℕ, List, Ok};
 ghost use Rattle.fs_layout.specs.Bytes.{SectorMap};
 ghost use Rattle.fs_layout.specs.Images.{inode_at};
 ghost use Rattle.fs_model.specs.TreeChanges.{TakeName};
@@ -15,9 +15,10 @@ ghost use Rattle.fs_model.specs.declared.call.Call.TheVariants.{Unlink, Rmdir};
 ghost use Rattle.call_parts.specs.Paths.{scene_at};
 ghost use Rattle.call_parts.specs.Performing.{IsReadyFor, PerformsFor};
 ghost use Rattle.name_calls.specs.declared.removal.Target.TheVariants.{NoDirectory, Directory};
-ghost use Rattle.name_calls.specs.Altering.{AltersDisk, HoldsChange};
+ghost use Rattle.call_parts.specs.Altering.{AltersDisk, HoldsChange};
 ghost use Rattle.name_calls.specs.Removing.{FindsName, IsNamedThere, removal_asked, last_asked, directory_asked, kind_asked, removal_demands, removal_call, MayGoAt};
-ghost use Rattle.name_calls.specs.Telling.{ShowsTree, HasState, TellsTree, TellsState};
+ghost use Rattle.call_parts.specs.Telling.{checked, ShowsTree, HasState, TellsTree, TellsOf};
+ghost use Rattle.name_calls.specs.Walking.{WalksToName};
 
 use crate::dropping::lose_name;
 use call_parts::{
@@ -40,7 +41,7 @@ enum Target {
 
 // Asks whether a path of unlink ends in a name.
 fn check_name(found: &Found) -> Result<(), Refusal>
-    ensures { result ≡ refused_or (first_of (last_asked NoDirectory found.now)) (Ok tt) }
+    ensures { result ≡ checked (first_of (last_asked NoDirectory found.now)) }
 {
     match found.last {
         Last::Name => Ok(()),
@@ -50,7 +51,7 @@ fn check_name(found: &Found) -> Result<(), Refusal>
 
 // Asks whether a path of rmdir ends in a name.
 fn check_directory_name(found: &Found) -> Result<(), Refusal>
-    ensures { result ≡ refused_or (first_of (last_asked Directory found.now)) (Ok tt) }
+    ensures { result ≡ checked (first_of (last_asked Directory found.now)) }
 {
     match found.last {
         Last::Name => Ok(()),
@@ -62,7 +63,7 @@ fn check_directory_name(found: &Found) -> Result<(), Refusal>
 
 // Asks whether the path of what is to go ends in a name.
 fn check_last(found: &Found, what: Target) -> Result<(), Refusal>
-    ensures { result ≡ refused_or (first_of (last_asked what found.now)) (Ok tt) }
+    ensures { result ≡ checked (first_of (last_asked what found.now)) }
 {
     match what {
         Target::NoDirectory => check_name(found),
@@ -94,7 +95,7 @@ fn check_removal<S: Sectors>(
 /// Asks whether what is to go is an empty directory that isn't in use.
 pub(crate) fn check_directory(procs: &Procs, ino: u32, inode: &Inode) -> Result<(), Refusal>
     ensures { (version : Version) (image : SectorMap) (b : Body) → HoldsBody version image inode.now b
-        → result ≡ refused_or (first_of (directory_asked b (is_in_use procs.now ino))) (Ok tt) }
+        → result ≡ checked (first_of (directory_asked b (is_in_use procs.now ino))) }
 {
     if inode.kind != Kind::Directory {
         return Err(Refusal::Failed(Errno::ENOTDIR));
@@ -111,7 +112,7 @@ pub(crate) fn check_directory(procs: &Procs, ino: u32, inode: &Inode) -> Result<
 // Asks whether what is to go is what the call removes.
 fn check_kind(procs: &Procs, ino: u32, inode: &Inode, what: Target) -> Result<(), Refusal>
     ensures { (version : Version) (image : SectorMap) (b : Body) → HoldsBody version image inode.now b
-        → result ≡ refused_or (first_of (kind_asked what b (is_in_use procs.now ino))) (Ok tt) }
+        → result ≡ checked (first_of (kind_asked what b (is_in_use procs.now ino))) }
 {
     match what {
         Target::NoDirectory => check_no_directory(inode.kind),
@@ -128,7 +129,7 @@ fn check_target<S: Sectors>(
 ) -> Result<(u32, Inode), Refusal>
     requires { HasState caller.now.geometry (S.state s.old) (FindsName caller.now.geometry (S.state s.old).sectors caller.now.procs.now
         walked.now.process.now walked.now.found) }
-    ensures { TellsState (FindsName caller.now.geometry (S.state s.old).sectors caller.now.procs.now
+    ensures { TellsOf (FindsName caller.now.geometry (S.state s.old).sectors caller.now.procs.now
         walked.now.process.now walked.now.found)
         (λ st. refused_or (first_of (removal_demands what (scene_at st walked.now.process.now walked.now.found)))
         (Ok (found_ino walked.now.found, inode_at caller.now.geometry (S.state s.old).sectors (found_ino walked.now.found))))
@@ -160,13 +161,18 @@ fn take_name<S: Sectors>(
     Ok(())
 }
 
-// Removes the name that a path ends in, and with its last name what it leads to.
-fn remove_target<S: Sectors>(s: &mut S, caller: &Caller, path: &Path, what: Target) -> CallResult
-    requires ready { IsReadyFor caller.now (S.state s.old) }
-    ensures { PerformsFor caller.now (removal_call what path.now) (S.state s.old) (S.state s.new) result }
+// Removes the name that a path has led to, and with its last name what has it.
+fn remove_walked<S: Sectors>(
+    s: &mut S,
+    caller: &Caller,
+    walked: &Walked,
+    what: Target,
+) -> CallResult
+    requires { (path : List ℕ) × WalksToName caller.now (S.state s.old) walked.now path }
+    ensures { (path : List ℕ) → WalksToName caller.now (S.state s.old) walked.now path
+        → PerformsFor caller.now (removal_call what path) (S.state s.old) (S.state s.new) result }
 {
-    let walked = walk_path(s, caller, Ok(()), path, Form::Parent)?;
-    let (ino, inode) = check_target(s, caller, &walked, what)?;
+    let (ino, inode) = check_target(s, caller, walked, what)?;
     take_name(s, caller, &walked.found, ino, &inode)?;
     let touches = [
         (walked.found.dir_ino, Touch::Modified),
@@ -174,6 +180,15 @@ fn remove_target<S: Sectors>(s: &mut S, caller: &Caller, path: &Path, what: Targ
     ];
     touch(s, caller.geometry, caller.time, &touches)?;
     Ok(Reply::Done)
+}
+
+// Removes the name that a path ends in, and with its last name what it leads to.
+fn remove_target<S: Sectors>(s: &mut S, caller: &Caller, path: &Path, what: Target) -> CallResult
+    requires ready { IsReadyFor caller.now (S.state s.old) }
+    ensures { PerformsFor caller.now (removal_call what path.now) (S.state s.old) (S.state s.new) result }
+{
+    let walked = walk_path(s, caller, Ok(()), path, Form::Parent)?;
+    remove_walked(s, caller, &walked, what)
 }
 
 /// Removes the name that a path ends in, of a file or a symbolic link. With its last name the file goes, once nobody has it

@@ -1,6 +1,6 @@
 //! Names that change: POSIX.1-2017, rename().
 
-ghost use Rattle.std.specs.Prelude.{◌≡◌, ◌||◌, Ok};
+ghost use Rattle.std.specs.Prelude.{◌≡◌, ◌||◌, ℕ, List, Ok};
 ghost use Rattle.fs_layout.specs.Images.{inode_at};
 ghost use Rattle.fs_model.specs.Demands.{first_of};
 ghost use Rattle.fs_model.specs.RenameCall.{rename_demands};
@@ -10,8 +10,8 @@ ghost use Rattle.fs_model.specs.declared.call.Call.TheVariants.{Rename};
 ghost use Rattle.call_parts.specs.Performing.{IsReadyFor, PerformsFor};
 ghost use Rattle.name_calls.specs.Renaming.{BothThere, ends_asked, names_asked, inode_there, other_kind, directory_kind, slash_told, replacing_asked};
 ghost use Rattle.name_calls.specs.Replacing.{same_number};
-ghost use Rattle.name_calls.specs.Telling.{ShowsTree, HasState, TellsTree, TellsState, FoundThere, FindsWalked};
-ghost use Rattle.call_parts.specs.TwoPaths.{scene_with};
+ghost use Rattle.name_calls.specs.Walking.{WalksTo};
+ghost use Rattle.call_parts.specs.Telling.{checked, ShowsTree, HasState, TellsTree, TellsOf, FoundThere, FindsWalked, scene_walked};
 
 use crate::moving::{move_name, touch_moved};
 use crate::replacing::check_move;
@@ -44,7 +44,7 @@ fn ends_in_top(found: &Found) -> bool
 
 // Asks whether both paths of rename end in names.
 fn check_ends(first: &Found, second: &Found) -> Result<(), Refusal>
-    ensures { result ≡ refused_or (first_of (ends_asked first.now second.now)) (Ok tt) }
+    ensures { result ≡ checked (first_of (ends_asked first.now second.now)) }
 {
     let dots = ends_in_dots(first);
     let more_dots = ends_in_dots(second);
@@ -93,7 +93,7 @@ fn check_slashes(
     kind: Kind,
     replaced: &Option<(u32, Inode)>,
 ) -> Result<(), Refusal>
-    ensures { result ≡ refused_or (slash_told first.now second.now kind replaced.now) (Ok tt) }
+    ensures { result ≡ checked (slash_told first.now second.now kind replaced.now) }
 {
     let other = is_other(replaced);
     if kind != Kind::Directory && (first.slash || second.slash) || other && second.slash {
@@ -115,7 +115,7 @@ fn is_directory(there: &Option<(u32, Inode)>) -> bool
 /// Asks whether what has this kind may replace what the new name leads to. EISDIR: that alone is a directory. ENOTDIR: this
 /// alone is one.
 pub(crate) fn check_kinds(kind: Kind, replaced: &Option<(u32, Inode)>) -> Result<(), Refusal>
-    ensures { result ≡ refused_or (first_of (replacing_asked kind replaced.now)) (Ok tt) }
+    ensures { result ≡ checked (first_of (replacing_asked kind replaced.now)) }
 {
     let other = is_other(replaced);
     let directory = is_directory(replaced);
@@ -170,8 +170,8 @@ fn check_rename<S: Sectors>(
     walked: &WalkedBoth,
 ) -> Result<(u32, Inode, Option<(u32, Inode)>), Refusal>
     requires { HasState caller.now.geometry (S.state s.old) (FindsWalked caller.now (S.state s.old).sectors walked.now) }
-    ensures { TellsState (FindsWalked caller.now (S.state s.old).sectors walked.now)
-        (λ st. refused_or (first_of (rename_demands (scene_with st walked.now.process.now walked.now.first walked.now.second)))
+    ensures { TellsOf (FindsWalked caller.now (S.state s.old).sectors walked.now)
+        (λ st. refused_or (first_of (rename_demands (scene_walked walked.now st)))
         (Ok (
           found_ino walked.now.first,
           inode_at caller.now.geometry (S.state s.old).sectors (found_ino walked.now.first),
@@ -186,6 +186,21 @@ fn check_rename<S: Sectors>(
     Ok((ino, inode, replaced))
 }
 
+// Renames what both paths have led to.
+fn rename_walked<S: Sectors>(s: &mut S, caller: &Caller, walked: &WalkedBoth) -> CallResult
+    requires { (old : List ℕ) × (new : List ℕ) × WalksTo caller.now (S.state s.old) walked.now old new }
+    ensures { (old new : List ℕ) → WalksTo caller.now (S.state s.old) walked.now old new
+        → PerformsFor caller.now (Rename old new) (S.state s.old) (S.state s.new) result }
+{
+    let (ino, inode, replaced) = check_rename(s, caller, walked)?;
+    if is_same(ino, &replaced) {
+        return Ok(Reply::Done);
+    }
+    move_name(s, caller, walked, ino, &inode, &replaced)?;
+    touch_moved(s, caller, walked, ino)?;
+    Ok(Reply::Done)
+}
+
 /// Gives what the path `old` leads to the name that the path `new` ends in, in place of what that led to: a file, a symbolic
 /// link itself, or a directory. Where both are one object nothing changes.
 ///
@@ -198,11 +213,5 @@ pub fn rename<S: Sectors>(s: &mut S, caller: &Caller, old: &Path, new: &Path) ->
     ensures { PerformsFor caller.now (Rename old.now new.now) (S.state s.old) (S.state s.new) result }
 {
     let walked = walk_both(s, caller, old, new)?;
-    let (ino, inode, replaced) = check_rename(s, caller, &walked)?;
-    if is_same(ino, &replaced) {
-        return Ok(Reply::Done);
-    }
-    move_name(s, caller, &walked, ino, &inode, &replaced)?;
-    touch_moved(s, caller, &walked, ino)?;
-    Ok(Reply::Done)
+    rename_walked(s, caller, &walked)
 }

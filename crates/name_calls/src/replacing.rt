@@ -3,19 +3,15 @@
 ghost use Rattle.std.specs.Prelude.{◌≡◌, ◌-◌, ℕ, Option, Some, Ok};
 ghost use Rattle.fs_layout.specs.Bytes.{SectorMap};
 ghost use Rattle.fs_layout.specs.Images.{inode_at};
-ghost use Rattle.sector_txn.specs.Sectors.{IsUnchanged};
 ghost use Rattle.bit_alloc.specs.Inodes.{IsSound};
 ghost use Rattle.fs_model.specs.Demands.{first_of};
-ghost use Rattle.fs_model.specs.Processes.{ProcessTable, Process as Asking};
 ghost use Rattle.fs_model.specs.RenameCall.{rename_permissions, rename_moved, rename_space};
-ghost use Rattle.fs_model.specs.States.{State};
 ghost use Rattle.fs_model.specs.Trees.{Tree, IsDirectoryAt};
-ghost use Rattle.path_walk.specs.Answers.{refused_or, IsAnswered};
-ghost use Rattle.path_walk.specs.HeldTrees.{HoldsTree, IsThere};
+ghost use Rattle.path_walk.specs.Answers.{refused_or};
+ghost use Rattle.path_walk.specs.HeldTrees.{HoldsTree};
+ghost use Rattle.call_parts.specs.Telling.{checked, ShowsTree, HasState, TellsTree, TellsOf, FoundThere, scene_walked};
 ghost use Rattle.name_calls.specs.Renaming.{inode_there};
-ghost use Rattle.name_calls.specs.Replacing.{IsToRename, sticky_there, below_asked, replaced_asked, move_asked};
-ghost use Rattle.name_calls.specs.Telling.{ShowsTree, TellsTree};
-ghost use Rattle.call_parts.specs.TwoPaths.{scene_with};
+ghost use Rattle.name_calls.specs.Replacing.{Renames, AreRenamed, sticky_there, below_asked, replaced_asked, move_asked};
 
 use crate::removal::check_directory;
 use crate::renaming::check_kinds;
@@ -42,8 +38,7 @@ fn check_sticky_there(
     directory: &Inode,
     replaced: &Option<(u32, Inode)>,
 ) -> Result<(), Refusal>
-    ensures { result ≡ refused_or
-        (first_of (sticky_there process.now.cred directory.now replaced.now (found.now.step - 1))) (Ok tt) }
+    ensures { result ≡ checked (first_of (sticky_there process.now.cred directory.now replaced.now (found.now.step - 1))) }
 {
     let Some((_, inode)) = replaced else {
         return Ok(());
@@ -60,17 +55,11 @@ fn check_permissions<S: Sectors>(
     inode: &Inode,
     replaced: &Option<(u32, Inode)>,
 ) -> Result<Inode, Refusal>
-    requires sound { IsSound caller.now.geometry (S.state s.old) }
-    requires names { (processes : ProcessTable) × (n : ℕ) × (st : State)
-        × IsToRename caller.now.geometry (S.state s.old).sectors processes walked.now.first walked.now.second
-        n inode.now replaced.now st }
-    ensures each { (processes : ProcessTable) (n : ℕ) (st : State)
-        → IsToRename caller.now.geometry (S.state s.old).sectors processes walked.now.first walked.now.second
-        n inode.now replaced.now st
-        → IsAnswered (S.state s.old).disk (S.state s.new).disk
-        (refused_or (first_of (rename_permissions (scene_with st walked.now.process.now walked.now.first walked.now.second)))
-        (Ok (inode_at caller.now.geometry (S.state s.old).sectors walked.now.second.dir_ino))) result }
-    ensures same { IsUnchanged (S.state s.old) (S.state s.new) }
+    requires { HasState caller.now.geometry (S.state s.old)
+        (λ st. (n : ℕ) × Renames caller.now (S.state s.old).sectors walked.now n inode.now replaced.now st) }
+    ensures { TellsOf (λ st. (n : ℕ) × Renames caller.now (S.state s.old).sectors walked.now n inode.now replaced.now st)
+        (λ st. refused_or (first_of (rename_permissions (scene_walked walked.now st)))
+        (Ok (inode_at caller.now.geometry (S.state s.old).sectors walked.now.second.dir_ino))) (S.state s.old) (S.state s.new) result }
 {
     let process = walked.process;
     let first = &walked.first;
@@ -91,7 +80,7 @@ fn check_below<S: Sectors>(
     dir_ino: u32,
 ) -> Result<(), Refusal>
     requires { ShowsTree geometry (S.state s.old) (λ t. IsDirectoryAt t dir_ino) }
-    ensures { TellsTree geometry (λ t. IsDirectoryAt t dir_ino) (λ t. refused_or (below_asked t kind ino dir_ino) (Ok tt))
+    ensures { TellsTree geometry (λ t. IsDirectoryAt t dir_ino) (λ t. checked (below_asked t kind ino dir_ino))
         (S.state s.old) (S.state s.new) result }
 {
     if kind != Kind::Directory {
@@ -106,10 +95,9 @@ fn check_below<S: Sectors>(
 
 // Asks whether what is replaced may go: a directory is empty and not in use.
 fn check_replaced(procs: &Procs, replaced: &Option<(u32, Inode)>) -> Result<(), Refusal>
-    ensures { (p : Geometry) (map : SectorMap) (t : Tree) (g : Found) → HoldsTree p map t
-        → ((m : ℕ) → g.ino ≡ Some m → IsThere t m)
+    ensures { (p : Geometry) (map : SectorMap) (t : Tree) (g : Found) → HoldsTree p map t → FoundThere g t
         → replaced.now ≡ inode_there p map g.ino
-        → result ≡ refused_or (first_of (replaced_asked t procs.now g)) (Ok tt) }
+        → result ≡ checked (first_of (replaced_asked t procs.now g)) }
 {
     let Some((ino, inode)) = replaced else {
         return Ok(());
@@ -128,17 +116,11 @@ fn check_moved<S: Sectors>(
     walked: &WalkedBoth,
     inode: &Inode,
 ) -> Result<(), Refusal>
-    requires sound { IsSound caller.now.geometry (S.state s.old) }
-    requires names { (processes : ProcessTable) × (n : ℕ) × (there : Option (ℕ × Inode)) × (st : State)
-        × IsToRename caller.now.geometry (S.state s.old).sectors processes walked.now.first walked.now.second
-        n inode.now there st }
-    ensures each { (processes : ProcessTable) (n : ℕ) (there : Option (ℕ × Inode)) (st : State)
-        → IsToRename caller.now.geometry (S.state s.old).sectors processes walked.now.first walked.now.second
-        n inode.now there st
-        → IsAnswered (S.state s.old).disk (S.state s.new).disk
-        (refused_or (first_of (rename_moved
-        (scene_with st walked.now.process.now walked.now.first walked.now.second))) (Ok tt)) result }
-    ensures same { IsUnchanged (S.state s.old) (S.state s.new) }
+    requires { HasState caller.now.geometry (S.state s.old)
+        (λ st. (n : ℕ) × (there : Option (ℕ × Inode)) × Renames caller.now (S.state s.old).sectors walked.now n inode.now there st) }
+    ensures { TellsOf
+        (λ st. (n : ℕ) × (there : Option (ℕ × Inode)) × Renames caller.now (S.state s.old).sectors walked.now n inode.now there st)
+        (λ st. checked (first_of (rename_moved (scene_walked walked.now st)))) (S.state s.old) (S.state s.new) result }
 {
     let first = &walked.first;
     let second = &walked.second;
@@ -157,17 +139,14 @@ fn check_moved<S: Sectors>(
 // Asks for space, where a name is new in another directory.
 fn check_space<S: Sectors>(
     s: &mut S,
-    geometry: Geometry,
+    caller: &Caller,
     walked: &WalkedBoth,
     to_directory: &Inode,
 ) -> Result<(), Refusal>
-    requires sound { IsSound geometry (S.state s.old) }
-    ensures each { (processes : ProcessTable) (q : Asking) (n : ℕ) (v : Inode) (there : Option (ℕ × Inode)) (st : State)
-        → IsToRename geometry (S.state s.old).sectors processes walked.now.first walked.now.second n v there st
-        → to_directory.now ≡ inode_at geometry (S.state s.old).sectors walked.now.second.dir_ino
-        → IsAnswered (S.state s.old).disk (S.state s.new).disk
-        (refused_or (first_of (rename_space (scene_with st q walked.now.first walked.now.second))) (Ok tt)) result }
-    ensures same { IsUnchanged (S.state s.old) (S.state s.new) }
+    requires sound { IsSound caller.now.geometry (S.state s.old) }
+    requires directory { to_directory.now ≡ inode_at caller.now.geometry (S.state s.old).sectors walked.now.second.dir_ino }
+    ensures { TellsOf (AreRenamed caller.now (S.state s.old).sectors walked.now)
+        (λ st. checked (first_of (rename_space (scene_walked walked.now st)))) (S.state s.old) (S.state s.new) result }
 {
     if walked.second.ino.is_some() {
         return Ok(());
@@ -175,7 +154,7 @@ fn check_space<S: Sectors>(
     if walked.first.dir_ino == walked.second.dir_ino {
         return Ok(());
     }
-    ask_for_name(s, geometry, to_directory)?;
+    ask_for_name(s, caller.geometry, to_directory)?;
     Ok(())
 }
 
@@ -188,23 +167,16 @@ pub(crate) fn check_move<S: Sectors>(
     inode: &Inode,
     replaced: &Option<(u32, Inode)>,
 ) -> Result<(), Refusal>
-    requires sound { IsSound caller.now.geometry (S.state s.old) }
-    requires names { (st : State)
-        × IsToRename caller.now.geometry (S.state s.old).sectors caller.now.procs.now
-        walked.now.first walked.now.second ino inode.now replaced.now st }
-    ensures each { (st : State)
-        → IsToRename caller.now.geometry (S.state s.old).sectors caller.now.procs.now
-        walked.now.first walked.now.second ino inode.now replaced.now st
-        → IsAnswered (S.state s.old).disk (S.state s.new).disk
-        (refused_or (first_of (move_asked
-        (scene_with st walked.now.process.now walked.now.first walked.now.second))) (Ok tt)) result }
-    ensures same { IsUnchanged (S.state s.old) (S.state s.new) }
+    requires { HasState caller.now.geometry (S.state s.old)
+        (Renames caller.now (S.state s.old).sectors walked.now ino inode.now replaced.now) }
+    ensures { TellsOf (Renames caller.now (S.state s.old).sectors walked.now ino inode.now replaced.now)
+        (λ st. checked (first_of (move_asked (scene_walked walked.now st)))) (S.state s.old) (S.state s.new) result }
 {
     let to_directory = check_permissions(s, caller, walked, inode, replaced)?;
     check_kinds(inode.kind, replaced)?;
     check_below(s, caller.geometry, ino, inode.kind, walked.second.dir_ino)?;
     check_replaced(caller.procs, replaced)?;
     check_moved(s, caller, walked, inode)?;
-    check_space(s, caller.geometry, walked, &to_directory)?;
+    check_space(s, caller, walked, &to_directory)?;
     Ok(())
 }

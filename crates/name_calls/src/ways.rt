@@ -3,7 +3,7 @@
 ghost use Rattle.std.specs.Prelude.{length, Ok, IfErr};
 ghost use Rattle.fs_model.specs.Trees.{is_within, IsDirectoryAt};
 ghost use Rattle.path_walk.specs.Answers.{FailsToRead};
-ghost use Rattle.name_calls.specs.Telling.{ShowsTree, TellsTree};
+ghost use Rattle.call_parts.specs.Telling.{ShowsTree, TellsTree};
 
 use fs_cred::Refusal;
 use fs_layout::{Geometry, ROOT};

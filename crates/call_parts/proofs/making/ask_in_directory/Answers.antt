@@ -1,28 +1,25 @@
-use Rattle.std.proofs.Common.{◌≡◌, Ok, sym, ap, inr, ◌∙◌}
-use Rattle.fs_cred.specs.declared.rule.Rule.{Rule}
-use Rattle.fs_layout.specs.declared.inode.Inode.{Inode}
+use Rattle.std.proofs.Common.{◌≡◌, sym, inr}
 use Rattle.fs_layout.specs.Bytes.{SectorMap}
 use Rattle.fs_layout.specs.Images.{inode_at}
-use Rattle.fs_model.specs.Demands.{permission_on, write_and_search}
-use Rattle.path_walk.specs.Answers.{refused_or}
-use Rattle.call_parts.proofs.Calling.{answered_later}
+use Rattle.block_map.proofs.Runs.{unchanged_joined}
 use Rattle.path_walk.proofs.HeldNodes.{number_below, is_there}
-use Rattle.path_walk.proofs.Kept.{kept, sound_kept, answered_err}
+use Rattle.path_walk.proofs.Kept.{kept, sound_kept}
 use Rattle.call_parts.proofs.MakeAsked.{dir_access, held_later}
-use Rattle.call_parts.proofs.NameAsked.{dir_denied, dir_granted}
+use Rattle.call_parts.proofs.NameAsked.{dir_refuses, dir_granted}
+use Rattle.call_parts.proofs.Refuses.{passed_later, broken, answered_ok}
 use Rattle.call_parts.proofs.making.ask_in_directory.Goals as goal
 
-pub load_inode-requires-clause-below : goal.load_inode-requires-clause-below
-load_inode-requires-clause-below g c = let x = c.requires.there in number_below x.1 c.args.dir_ino (is_there x.0 c.args.dir_ino x.2.node x.2.is_there)
+pub load_inode-requires : goal.load_inode-requires
+load_inode-requires g c =
+    let x = c.requires.there in
+    record { sound = c.requires.sound; below = number_below x.1 c.args.dir_ino (is_there x.0 c.args.dir_ino x.2.node x.2.is_there) }
 
-pub returns-in_err-directory-clause-each : goal.returns-in_err-directory-clause-each
-returns-in_err-directory-clause-each g c = λ t h d.
-    let r = c.from_residual.ensures in
-    let old = g.S.Sectors.state c.args.s.now in
-    let new = g.S.Sectors.state c.load_inode.new.s in
-    answered_err {A = Inode} old.disk new.disk
-    (refused_or (permission_on c.args.cred.now t c.args.dir_ino write_and_search c.args.walk c.args.step) (Ok (inode_at c.args.caller.now.geometry old.sectors c.args.dir_ino)))
-    c.from_residual.result c.in_err-directory.field-0.0 r.0 r.1 (inr (inr c.in_err-directory.ensures.fault))
+pub returns-in_err-directory : goal.returns-in_err-directory
+returns-in_err-directory g c = record {
+  each = λ t h d.
+      broken (g.S.Sectors.state c.args.s.now).disk (g.S.Sectors.state c.load_inode.new.s).disk _ _ _ c.from_residual.ensures (inr c.in_err-directory.ensures.fault);
+  same = c.in_err-directory.ensures.same;
+}
 
 pub permitted-requires : goal.permitted-requires
 permitted-requires g c =
@@ -38,25 +35,23 @@ permitted-requires g c =
       has = ((dir_access x.1 c.args.dir_ino x.2 c.args.cred.now c.args.step).access, held_later x.1 c.args.dir_ino x.2 c.args.cred.now c.args.step same c.in_ok-directory.directory c.in_ok-directory.ensures.found);
     }
 
-pub returns-in_err-permitted-clause-each : goal.returns-in_err-permitted-clause-each
-returns-in_err-permitted-clause-each g c = λ t h d.
-    let r = c.from_residual-in_err-permitted.ensures in
-    let old = g.S.Sectors.state c.args.s.now in
-    let new = g.S.Sectors.state c.permitted.new.s in
-    let same = c.in_ok-directory.ensures.same in
-    let e = c.in_err-permitted.field-0.0 in
-    let v = inode_at c.args.caller.now.geometry old.sectors c.args.dir_ino in
-    let a = dir_access h c.args.dir_ino d c.args.cred.now c.args.step in
-    answered_err {A = Inode} old.disk new.disk (refused_or (permission_on c.args.cred.now t c.args.dir_ino write_and_search c.args.walk c.args.step) (Ok v))
-    c.from_residual-in_err-permitted.result e r.0 r.1
-    (dir_denied h c.args.dir_ino d c.args.cred.now c.args.walk c.args.step {A = Inode} v e old.disk new.disk
-    (answered_later {A = Rule} new.disk same (c.in_err-permitted.ensures.each a.access (held_later h c.args.dir_ino d c.args.cred.now c.args.step same c.in_ok-directory.directory c.in_ok-directory.ensures.found))))
+pub returns-in_err-permitted : goal.returns-in_err-permitted
+returns-in_err-permitted g c = record {
+  each = λ t h d.
+      let same = c.in_ok-directory.ensures.same in
+      passed_later (g.S.Sectors.state c.permitted.new.s).disk _ _ _ c.from_residual-in_err-permitted.ensures same
+      (dir_refuses h c.args.dir_ino d c.args.cred.now c.args.walk c.args.step) _
+      (c.in_err-permitted.ensures.each _ (held_later h c.args.dir_ino d c.args.cred.now c.args.step same c.in_ok-directory.directory c.in_ok-directory.ensures.found));
+  same = unchanged_joined c.in_ok-directory.ensures.same c.in_err-permitted.ensures.same;
+}
 
-pub returns-clause-each : goal.returns-clause-each
-returns-clause-each g c = λ t h d.
-    let old = g.S.Sectors.state c.args.s.now in
-    let same = c.in_ok-directory.ensures.same in
-    let a = dir_access h c.args.dir_ino d c.args.cred.now c.args.step in
-    let met = dir_granted h c.args.dir_ino d c.args.cred.now c.args.walk c.args.step c.in_ok-permitted.field-0
-    (c.in_ok-permitted.ensures.each a.access (held_later h c.args.dir_ino d c.args.cred.now c.args.step same c.in_ok-directory.directory c.in_ok-directory.ensures.found)) in
-    ap (λ o. refused_or {A = Inode} o (Ok (inode_at c.args.caller.now.geometry old.sectors c.args.dir_ino))) met ∙ ap (λ (w : Inode). Ok w) (sym c.in_ok-directory.ensures.found)
+pub returns : goal.returns
+returns g c = record {
+  each = λ t h d.
+      let same = c.in_ok-directory.ensures.same in
+      answered_ok
+      (dir_granted h c.args.dir_ino d c.args.cred.now c.args.walk c.args.step c.in_ok-permitted.field-0
+      (c.in_ok-permitted.ensures.each _ (held_later h c.args.dir_ino d c.args.cred.now c.args.step same c.in_ok-directory.directory c.in_ok-directory.ensures.found)))
+      (sym c.in_ok-directory.ensures.found);
+  same = unchanged_joined c.in_ok-directory.ensures.same c.in_ok-permitted.ensures.same;
+}

@@ -1,101 +1,81 @@
-use Rattle.std.proofs.Common.{Ok, sym, ap, ◌∙◌}
-use Rattle.fs_layout.specs.declared.inode.Inode.{Inode}
+use Rattle.std.proofs.Common.{sym}
 use Rattle.fs_layout.specs.Images.{inode_at}
 use Rattle.fs_layout.specs.Version.{max_directory_size}
-use Rattle.fs_model.specs.Demands.{first_of, permission_on, write_and_search}
+use Rattle.fs_model.specs.Demands.{permission_on, write_and_search}
 use Rattle.block_map.proofs.Runs.{unchanged_joined}
-use Rattle.path_walk.specs.Answers.{refused_or}
-use Rattle.path_walk.proofs.Kept.{sound_kept, answered_err}
-use Rattle.call_parts.specs.Makings.{make_asked}
-use Rattle.call_parts.proofs.MakeAsked.{make_denied, make_few, make_none, make_crowded, make_granted, make_enough, make_some, make_met, sectors_later, inodes_later, answered_as, size_as}
+use Rattle.path_walk.proofs.Kept.{sound_kept}
+use Rattle.call_parts.proofs.MakeAsked.{denied_refuses, crowded_refuses, few_later, none_later, make_granted, make_enough, make_some, make_met, answered_as, size_as}
+use Rattle.call_parts.proofs.Refuses.{passed, passed_later, refused_by, answered_ok}
 use Rattle.call_parts.proofs.making.check_make.Goals as goal
 
-pub returns-in_err-directory-clause-each : goal.returns-in_err-directory-clause-each
-returns-in_err-directory-clause-each g c = λ t h d.
-    let r = c.from_residual.ensures in
-    let old = g.S.Sectors.state c.args.s.now in
-    let new = g.S.Sectors.state c.ask_in_directory.new.s in
-    let e = c.in_err-directory.field-0.0 in
-    let v = inode_at c.args.caller.now.geometry old.sectors c.args.dir_ino in
-    answered_err {A = Inode} old.disk new.disk (refused_or (first_of (make_asked c.args.caller.now.geometry old.sectors c.args.cred.now t c.args.dir_ino c.args.step)) (Ok v))
-    c.from_residual.result e r.0 r.1
-    (make_denied h c.args.dir_ino d c.args.cred.now c.args.step v e old.disk new.disk (c.in_err-directory.ensures.each t h d))
+pub ask_in_directory-requires : goal.ask_in_directory-requires
+ask_in_directory-requires g c = c.requires
 
-pub returns-in_err-ask_for_sectors-clause-each : goal.returns-in_err-ask_for_sectors-clause-each
-returns-in_err-ask_for_sectors-clause-each g c = λ t h d.
-    let r = c.from_residual-in_err-ask_for_sectors.ensures in
-    let old = g.S.Sectors.state c.args.s.now in
-    let new = g.S.Sectors.state c.ask_for_sectors.new.s in
-    let joined = c.in_ok-directory.ensures.same in
-    let e = c.in_err-ask_for_sectors.field-0.0 in
-    let v = inode_at c.args.caller.now.geometry old.sectors c.args.dir_ino in
-    let granted = make_granted h c.args.dir_ino d c.args.cred.now c.args.step _ c.in_ok-directory.directory (c.in_ok-directory.ensures.each t h d) in
-    answered_err {A = Inode} old.disk new.disk (refused_or (first_of (make_asked c.args.caller.now.geometry old.sectors c.args.cred.now t c.args.dir_ino c.args.step)) (Ok v))
-    c.from_residual-in_err-ask_for_sectors.result e r.0 r.1
-    (make_few h c.args.dir_ino d c.args.cred.now c.args.step v e old.disk new.disk granted (sectors_later c.args.caller.now.geometry new.disk e joined c.in_err-ask_for_sectors.ensures.each))
-
-pub returns-in_err-ask_for_inode-clause-each : goal.returns-in_err-ask_for_inode-clause-each
-returns-in_err-ask_for_inode-clause-each g c = λ t h d.
-    let r = c.from_residual-in_err-ask_for_inode.ensures in
-    let old = g.S.Sectors.state c.args.s.now in
-    let new = g.S.Sectors.state c.ask_for_inode.new.s in
-    let first = c.in_ok-directory.ensures.same in
-    let joined = unchanged_joined first c.in_ok-ask_for_sectors.ensures.same in
-    let e = c.in_err-ask_for_inode.field-0.0 in
-    let v = inode_at c.args.caller.now.geometry old.sectors c.args.dir_ino in
-    let granted = make_granted h c.args.dir_ino d c.args.cred.now c.args.step _ c.in_ok-directory.directory (c.in_ok-directory.ensures.each t h d) in
-    let enough = make_enough h c.args.dir_ino d c.args.cred.now c.args.step first c.in_ok-ask_for_sectors.ensures.each in
-    answered_err {A = Inode} old.disk new.disk (refused_or (first_of (make_asked c.args.caller.now.geometry old.sectors c.args.cred.now t c.args.dir_ino c.args.step)) (Ok v))
-    c.from_residual-in_err-ask_for_inode.result e r.0 r.1
-    (make_none h c.args.dir_ino d c.args.cred.now c.args.step v e old.disk new.disk granted enough (inodes_later c.args.caller.now.geometry new.disk e joined c.in_err-ask_for_inode.ensures.each))
-
-pub returns-in_err-check_names-clause-each : goal.returns-in_err-check_names-clause-each
-returns-in_err-check_names-clause-each g c = λ t h d.
-    let r = c.from_residual-in_err-check_names.ensures in
-    let old = g.S.Sectors.state c.args.s.now in
-    let new = g.S.Sectors.state c.ask_for_inode.new.s in
-    let first = c.in_ok-directory.ensures.same in
-    let second = unchanged_joined first c.in_ok-ask_for_sectors.ensures.same in
-    let e = c.in_err-check_names.field-0.0 in
-    let v = inode_at c.args.caller.now.geometry old.sectors c.args.dir_ino in
-    let granted = make_granted h c.args.dir_ino d c.args.cred.now c.args.step _ c.in_ok-directory.directory (c.in_ok-directory.ensures.each t h d) in
-    let enough = make_enough h c.args.dir_ino d c.args.cred.now c.args.step first c.in_ok-ask_for_sectors.ensures.each in
-    let some = make_some h c.args.dir_ino d c.args.cred.now c.args.step second c.in_ok-ask_for_inode.ensures.each in
-    answered_err {A = Inode} old.disk new.disk (refused_or (first_of (make_asked c.args.caller.now.geometry old.sectors c.args.cred.now t c.args.dir_ino c.args.step)) (Ok v))
-    c.from_residual-in_err-check_names.result e r.0 r.1
-    (make_crowded h c.args.dir_ino d c.args.cred.now c.args.step v e old.disk new.disk granted enough some
-    (size_as (max_directory_size c.args.caller.now.geometry.version) (answered_as (permission_on c.args.cred.now t c.args.dir_ino write_and_search 1 c.args.step) (c.in_ok-directory.ensures.each t h d)) (sym c.in_err-check_names.ensures)))
-
-pub returns-clause-each : goal.returns-clause-each
-returns-clause-each g c = λ t h d.
-    let old = g.S.Sectors.state c.args.s.now in
-    let first = c.in_ok-directory.ensures.same in
-    let second = unchanged_joined first c.in_ok-ask_for_sectors.ensures.same in
-    let granted = make_granted h c.args.dir_ino d c.args.cred.now c.args.step _ c.in_ok-directory.directory (c.in_ok-directory.ensures.each t h d) in
-    let enough = make_enough h c.args.dir_ino d c.args.cred.now c.args.step first c.in_ok-ask_for_sectors.ensures.each in
-    let some = make_some h c.args.dir_ino d c.args.cred.now c.args.step second c.in_ok-ask_for_inode.ensures.each in
-    let met = make_met h c.args.dir_ino d c.args.cred.now c.args.step granted enough some (size_as (max_directory_size c.args.caller.now.geometry.version) (answered_as (permission_on c.args.cred.now t c.args.dir_ino write_and_search 1 c.args.step) (c.in_ok-directory.ensures.each t h d)) (sym c.in_ok-check_names.ensures)) in
-    ap (λ o. refused_or {A = Inode} o (Ok (inode_at c.args.caller.now.geometry old.sectors c.args.dir_ino))) met ∙ ap (λ (w : Inode). Ok w) (sym (answered_as (permission_on c.args.cred.now t c.args.dir_ino write_and_search 1 c.args.step) (c.in_ok-directory.ensures.each t h d)))
+pub returns-in_err-directory : goal.returns-in_err-directory
+returns-in_err-directory g c = record {
+  each = λ t h d.
+      let old = g.S.Sectors.state c.args.s.now in
+      let v = inode_at c.args.caller.now.geometry old.sectors c.args.dir_ino in
+      passed old.disk (g.S.Sectors.state c.ask_in_directory.new.s).disk v _ _ c.from_residual.ensures
+      (denied_refuses h c.args.dir_ino d c.args.cred.now c.args.step) v (c.in_err-directory.ensures.each t h d);
+  same = c.in_err-directory.ensures.same;
+}
 
 pub ask_for_sectors-requires : goal.ask_for_sectors-requires
 ask_for_sectors-requires g c = (sound_kept c.in_ok-directory.ensures.same c.requires.sound).bitmaps
+
+pub returns-in_err-ask_for_sectors : goal.returns-in_err-ask_for_sectors
+returns-in_err-ask_for_sectors g c = record {
+  each = λ t h d.
+      let asked = c.in_ok-directory.ensures in
+      passed_later (g.S.Sectors.state c.ask_for_sectors.new.s).disk _ _ _ c.from_residual-in_err-ask_for_sectors.ensures asked.same
+      (few_later h c.args.dir_ino d c.args.cred.now c.args.step asked.same (make_granted h c.args.dir_ino d c.args.cred.now c.args.step _ _ (asked.each t h d))) tt
+      c.in_err-ask_for_sectors.ensures.each;
+  same = unchanged_joined c.in_ok-directory.ensures.same c.in_err-ask_for_sectors.ensures.same;
+}
 
 pub ask_for_inode-requires : goal.ask_for_inode-requires
 ask_for_inode-requires g c =
     (sound_kept (unchanged_joined c.in_ok-directory.ensures.same c.in_ok-ask_for_sectors.ensures.same) c.requires.sound).bitmaps
 
--- ---- the same
-pub returns-in_err-ask_for_sectors-clause-same : goal.returns-in_err-ask_for_sectors-clause-same
-returns-in_err-ask_for_sectors-clause-same g c = unchanged_joined c.in_ok-directory.ensures.same c.in_err-ask_for_sectors.ensures.same
+pub returns-in_err-ask_for_inode : goal.returns-in_err-ask_for_inode
+returns-in_err-ask_for_inode g c =
+    let asked = c.in_ok-directory.ensures in
+    let joined = unchanged_joined asked.same c.in_ok-ask_for_sectors.ensures.same in
+    record {
+      each = λ t h d.
+          passed_later (g.S.Sectors.state c.ask_for_inode.new.s).disk _ _ _ c.from_residual-in_err-ask_for_inode.ensures joined
+          (none_later h c.args.dir_ino d c.args.cred.now c.args.step joined (make_granted h c.args.dir_ino d c.args.cred.now c.args.step _ _ (asked.each t h d))
+          (make_enough h c.args.dir_ino d c.args.cred.now c.args.step asked.same c.in_ok-ask_for_sectors.ensures.each)) tt
+          c.in_err-ask_for_inode.ensures.each;
+      same = unchanged_joined joined c.in_err-ask_for_inode.ensures.same;
+    }
 
-pub returns-in_err-ask_for_inode-clause-same : goal.returns-in_err-ask_for_inode-clause-same
-returns-in_err-ask_for_inode-clause-same g c =
-    unchanged_joined (unchanged_joined c.in_ok-directory.ensures.same c.in_ok-ask_for_sectors.ensures.same) c.in_err-ask_for_inode.ensures.same
+pub returns-in_err-check_names : goal.returns-in_err-check_names
+returns-in_err-check_names g c =
+    let asked = c.in_ok-directory.ensures in
+    let joined = unchanged_joined asked.same c.in_ok-ask_for_sectors.ensures.same in
+    record {
+      each = λ t h d.
+          refused_by (g.S.Sectors.state c.args.s.now).disk (g.S.Sectors.state c.ask_for_inode.new.s).disk _ _ _ c.from_residual-in_err-check_names.ensures
+          (crowded_refuses h c.args.dir_ino d c.args.cred.now c.args.step (make_granted h c.args.dir_ino d c.args.cred.now c.args.step _ _ (asked.each t h d))
+          (make_enough h c.args.dir_ino d c.args.cred.now c.args.step asked.same c.in_ok-ask_for_sectors.ensures.each)
+          (make_some h c.args.dir_ino d c.args.cred.now c.args.step joined c.in_ok-ask_for_inode.ensures.each) (answered_as _ (asked.each t h d)))
+          (sym c.in_err-check_names.ensures);
+      same = unchanged_joined joined c.in_ok-ask_for_inode.ensures.same;
+    }
 
-pub returns-in_err-check_names-clause-same : goal.returns-in_err-check_names-clause-same
-returns-in_err-check_names-clause-same g c =
-    unchanged_joined (unchanged_joined c.in_ok-directory.ensures.same c.in_ok-ask_for_sectors.ensures.same) c.in_ok-ask_for_inode.ensures.same
-
-pub returns-clause-same : goal.returns-clause-same
-returns-clause-same g c =
-    unchanged_joined (unchanged_joined c.in_ok-directory.ensures.same c.in_ok-ask_for_sectors.ensures.same) c.in_ok-ask_for_inode.ensures.same
+pub returns : goal.returns
+returns g c =
+    let asked = c.in_ok-directory.ensures in
+    let joined = unchanged_joined asked.same c.in_ok-ask_for_sectors.ensures.same in
+    record {
+      each = λ t h d.
+          let is = answered_as (permission_on c.args.cred.now t c.args.dir_ino write_and_search 1 c.args.step) (asked.each t h d) in
+          answered_ok
+          (make_met h c.args.dir_ino d c.args.cred.now c.args.step (make_granted h c.args.dir_ino d c.args.cred.now c.args.step _ _ (asked.each t h d))
+          (make_enough h c.args.dir_ino d c.args.cred.now c.args.step asked.same c.in_ok-ask_for_sectors.ensures.each)
+          (make_some h c.args.dir_ino d c.args.cred.now c.args.step joined c.in_ok-ask_for_inode.ensures.each)
+          (size_as (max_directory_size c.args.caller.now.geometry.version) is (sym c.in_ok-check_names.ensures))) (sym is);
+      same = unchanged_joined joined c.in_ok-ask_for_inode.ensures.same;
+    }

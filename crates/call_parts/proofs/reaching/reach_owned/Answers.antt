@@ -7,7 +7,8 @@ use Rattle.fs_model.specs.Demands.{allowed_by}
 use Rattle.fs_model.specs.States.{State}
 use Rattle.path_walk.proofs.Kept.{failed_with}
 use Rattle.call_parts.specs.Performing.{IsStateOf}
-use Rattle.call_parts.specs.Reaching.{checked, RefusesOwned}
+use Rattle.call_parts.specs.Telling.{checked}
+use Rattle.call_parts.specs.Reaching.{RefusesOwned}
 use Rattle.call_parts.proofs.Calling.{met_ok}
 use Rattle.call_parts.proofs.Reachings.{reach_owns, unowned}
 use Rattle.call_parts.proofs.reaching.reach_owned.Goals as goal

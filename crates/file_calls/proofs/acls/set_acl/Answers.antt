@@ -83,7 +83,7 @@ returns-in_err-replace_acl g c =
     let new = g.S.Sectors.state c.replace_acl.new.s in
     let failed = c.in_err-replace_acl.ensures in
     asked_refused by x.same x.owned.reached.walked new c.from_residual-in_err-replace_acl.result c.in_err-replace_acl.field-0.0 r.0 r.1
-    (store_joined same.store failed.store) {A = ℕ} 0 (λ s has at. inr (interrupts_later new.disk same failed.interrupts))
+    (store_joined same.store failed.store) {A = ℕ} 0 (λ s has at. inr (interrupts_later new.disk same (inr failed.fault)))
 
 pub touch-requires : goal.touch-requires
 touch-requires g c =
@@ -103,8 +103,8 @@ touch-requires g c =
     let done = c.in_ok-replace_acl.ensures in
     may_touch w.ready (store_joined same.store done.store)
     (acl_changed at (w.found w.ready.state at) o.reached.inode o.met c.args.which acl holder new.sectors enough given
-    (λ is a e. kept_back (λ (m : SectorMap). SavesAcl c.args.caller.now.geometry n v.mode a m new.sectors) same (done.access is a e))
-    (λ is. kept_back (λ (m : SectorMap). SavesDefaultAcl c.args.caller.now.geometry n acl m new.sectors) same (done.default is)))
+    (λ is a e. kept_back (λ (m : SectorMap). SavesAcl c.args.caller.now.geometry n v.mode a m new.sectors) same (done.made.access is a e))
+    (λ is. kept_back (λ (m : SectorMap). SavesDefaultAcl c.args.caller.now.geometry n acl m new.sectors) same (done.made.default is)))
     (reached_below o.reached, tt) 2 (taken_after c.args.caller.now.geometry 2 new same done.taken) (omega arith)
 
 pub returns-in_err-touch : goal.returns-in_err-touch
@@ -130,7 +130,7 @@ returns g c =
     let new = g.S.Sectors.state c.replace_acl.new.s in
     let done = c.in_ok-replace_acl.ensures in
     changed by x.same o.reached.walked new (store_joined same.store done.store)
-    (given_super c.args.caller.now.geometry n c.args.which acl given done.access done.default ∙ same.sectors 0) c.in_ok-touch.ensures.moved Done
+    (given_super c.args.caller.now.geometry n c.args.which acl given done.made.access done.made.default ∙ same.sectors 0) c.in_ok-touch.ensures.made Done
     (λ s has at. acl_changed at has o.reached.inode o.met c.args.which acl holder new.sectors enough given
-    (λ is a e. kept_back (λ (m : SectorMap). SavesAcl c.args.caller.now.geometry n v.mode a m new.sectors) same (done.access is a e))
-    (λ is. kept_back (λ (m : SectorMap). SavesDefaultAcl c.args.caller.now.geometry n acl m new.sectors) same (done.default is)))
+    (λ is a e. kept_back (λ (m : SectorMap). SavesAcl c.args.caller.now.geometry n v.mode a m new.sectors) same (done.made.access is a e))
+    (λ is. kept_back (λ (m : SectorMap). SavesDefaultAcl c.args.caller.now.geometry n acl m new.sectors) same (done.made.default is)))

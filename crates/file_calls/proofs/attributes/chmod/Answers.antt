@@ -56,5 +56,5 @@ returns g c =
     let o = x.owned in
     let given = c.in_ok-give_mode.ensures.given in
     changed (chmod_by_path c.args.path.now c.args.mode c.check_mode-checks.result c.check_mode-checks.ensures) x.same o.reached.walked
-    (g.S.Sectors.state c.give_mode.new.s) c.in_ok-give_mode.ensures.store (given _ (reached_access o.reached).acl).one.super c.in_ok-touch.ensures.moved Done
+    (g.S.Sectors.state c.give_mode.new.s) c.in_ok-give_mode.ensures.store (given _ (reached_access o.reached).acl).one.super c.in_ok-touch.ensures.made Done
     (λ s has at. mode_changed at has o.reached.inode c.cred-cred.result.now c.args.mode _ c.cred-cred.ensures o.met given)

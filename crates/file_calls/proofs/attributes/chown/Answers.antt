@@ -38,7 +38,7 @@ returns-in_err-give_owner g c =
     let x = c.in_ok-reached.ensures in
     asked_refused (chown_by_path c.args.path.now c.args.owner c.args.group) x.same x.reached.walked (g.S.Sectors.state c.give_owner.new.s)
     c.from_residual-in_err-give_owner.result c.in_err-give_owner.field-0.0 r.0 r.1 c.in_err-give_owner.ensures.store {A = ℕ} 0
-    (λ s has at. inr c.in_err-give_owner.ensures.interrupts)
+    (λ s has at. inr (inr c.in_err-give_owner.ensures.fault))
 
 pub touch-requires : goal.touch-requires
 touch-requires g c =
@@ -48,7 +48,7 @@ touch-requires g c =
     let done = c.in_ok-give_owner.ensures in
     may_touch w.ready done.store
     (owner_changed at (w.found w.ready.state at) x.reached.inode c.args.owner c.args.group c.unwrap_or-uid.result c.unwrap_or-gid.result c.unwrap_or-uid.ensures c.unwrap_or-gid.ensures
-    c.cred-cred.result.now tt _ c.cred-cred.ensures (sym c.in_ok-check_owner.ensures) done.given)
+    c.cred-cred.result.now tt _ c.cred-cred.ensures (sym c.in_ok-check_owner.ensures) done.made)
     (reached_below x.reached, tt) 1 done.taken (omega arith)
 
 pub returns-in_err-touch : goal.returns-in_err-touch
@@ -60,8 +60,8 @@ returns-in_err-touch g c =
 pub returns : goal.returns
 returns g c =
     let x = c.in_ok-reached.ensures in
-    let gives = c.in_ok-give_owner.ensures.given in
+    let gives = c.in_ok-give_owner.ensures.made in
     changed (chown_by_path c.args.path.now c.args.owner c.args.group) x.same x.reached.walked (g.S.Sectors.state c.give_owner.new.s)
-    c.in_ok-give_owner.ensures.store gives.one.super c.in_ok-touch.ensures.moved Done
+    c.in_ok-give_owner.ensures.store gives.one.super c.in_ok-touch.ensures.made Done
     (λ s has at. owner_changed at has x.reached.inode c.args.owner c.args.group c.unwrap_or-uid.result c.unwrap_or-gid.result c.unwrap_or-uid.ensures c.unwrap_or-gid.ensures
     c.cred-cred.result.now tt _ c.cred-cred.ensures (sym c.in_ok-check_owner.ensures) gives)

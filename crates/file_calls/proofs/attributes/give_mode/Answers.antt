@@ -1,4 +1,4 @@
-use Rattle.std.proofs.Common.{◌≡◌, ◌∙◌, arith, ap, sym, subst}
+use Rattle.std.proofs.Common.{◌≡◌, ◌∙◌, arith, ap, sym, subst, inr}
 use Rattle.posix_acl.specs.AccessList.{AccessList, with_mode_bits}
 use Rattle.fs_layout.specs.declared.inode.Inode.{Inode}
 use Rattle.fs_layout.specs.AclSector.{kept_acl}
@@ -15,11 +15,16 @@ use Rattle.call_parts.proofs.Removed.{taken_after}
 use Rattle.file_calls.proofs.Moded.{mode_fits, mode_takes_none}
 use Rattle.file_calls.proofs.attributes.give_mode.Goals as goal
 
-pub acl_of-requires-clause-there : goal.acl_of-requires-clause-there
-acl_of-requires-clause-there g c = (c.args.ino, c.requires.loaded.below, c.requires.loaded.inode)
+pub acl_of-requires : goal.acl_of-requires
+acl_of-requires g c = record { sound = c.requires.loaded.sound; there = (c.args.ino, c.requires.loaded.below, c.requires.loaded.inode); has = c.requires.has }
 
-pub give_acl-requires-clause-sound : goal.give_acl-requires-clause-sound
-give_acl-requires-clause-sound g c = sound_kept c.in_ok-had.ensures.same c.requires.loaded.sound
+pub give_acl-requires-clause-ready : goal.give_acl-requires-clause-ready
+give_acl-requires-clause-ready g c =
+    let same = c.in_ok-had.ensures.same in
+    record {
+      sound = sound_kept same c.requires.loaded.sound;
+      spare = spare_unchanged c.args.caller.now.geometry 2 (g.S.Sectors.state c.args.s.now) (g.S.Sectors.state c.acl_of.new.s) c.requires.spare same;
+    }
 
 pub give_acl-requires-clause-inode : goal.give_acl-requires-clause-inode
 give_acl-requires-clause-inode g c =
@@ -31,10 +36,6 @@ give_acl-requires-clause-fits g c =
     subst (λ k. FitsInode (record c.args.inode.now { mode = k })) (sym c.special_bits.ensures)
     (mode_fits c.args.inode.now c.args.cred.now c.args.mode
     (subst FitsInode (sym c.requires.loaded.inode) (inode_fits_there c.requires.loaded.sound.consistent c.args.ino c.requires.loaded.below)) c.requires.loaded.used c.requires.no_link)
-
-pub give_acl-requires-clause-spare : goal.give_acl-requires-clause-spare
-give_acl-requires-clause-spare g c =
-    spare_unchanged c.args.caller.now.geometry 2 (g.S.Sectors.state c.args.s.now) (g.S.Sectors.state c.acl_of.new.s) c.requires.spare c.in_ok-had.ensures.same
 
 pub give_acl-requires-clause-room : goal.give_acl-requires-clause-room
 give_acl-requires-clause-room g c =
@@ -51,7 +52,7 @@ returns-clause-given g c = λ a h.
     kept_back (λ m. SavesAcl c.args.caller.now.geometry c.args.ino (special_mode c.args.cred.now c.args.inode.now.kind c.args.inode.now.gid c.args.mode) (with_mode_bits a c.args.mode) m new.sectors) c.in_ok-had.ensures.same
     (subst (λ k. SavesAcl c.args.caller.now.geometry c.args.ino k (with_mode_bits a c.args.mode) then.sectors new.sectors) c.special_bits.ensures
     (subst (λ (x : AccessList). SavesAcl c.args.caller.now.geometry c.args.ino c.special_bits.result x then.sectors new.sectors)
-    (c.with_mode_bits-acl.ensures ∙ ap (λ (x : AccessList). with_mode_bits x c.args.mode) (c.in_ok-had.ensures.found a h)) c.in_ok-give_acl.ensures.given))
+    (c.with_mode_bits-acl.ensures ∙ ap (λ (x : AccessList). with_mode_bits x c.args.mode) (c.in_ok-had.ensures.found a h)) c.in_ok-give_acl.ensures.made))
 
 pub returns-clause-taken : goal.returns-clause-taken
 returns-clause-taken g c =
@@ -69,4 +70,4 @@ returns-in_err-give_acl-clause-interrupts g c =
     let old = g.S.Sectors.state c.args.s.now in
     let new = g.S.Sectors.state c.give_acl.new.s in
     failed_with c.from_residual-in_err-give_acl.result c.in_err-give_acl.field-0.0 (Interrupts old.disk new.disk) r.0 r.1
-    (interrupts_later new.disk c.in_ok-had.ensures.same c.in_err-give_acl.ensures.interrupts)
+    (interrupts_later new.disk c.in_ok-had.ensures.same (inr c.in_err-give_acl.ensures.fault))

@@ -19,4 +19,4 @@ returns-in_err-exit g c = absurd (no_exit_err c.args.procs.now c.args.pid c.in_o
 pub returns : goal.returns
 returns g c =
     let done = c.in_ok-leave_all.ensures in
-    exited c.exit.new.self c.in_ok-process.field-0.now c.in_ok-process.ensures.found c.exit.ensures.gone done.store done.superblock done.left
+    exited c.exit.new.self c.in_ok-process.field-0.now c.in_ok-process.ensures.found c.exit.ensures.gone done.store done.made.super done.made.held

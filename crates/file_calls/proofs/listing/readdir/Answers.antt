@@ -29,7 +29,7 @@ list_names-requires g c =
     record {
       sound = x.ready.sound;
       there = (c.in_ok-descriptor.descriptor.ino, open_below o x.ready.state at, x.inode);
-      directory = has_names o x.ready.state at c.in_ok-descriptor.inode x.inode (a_directory c.in_ok-descriptor.inode.kind c.in_ok-check_is_directory.ensures);
+      has = has_names o x.ready.state at c.in_ok-descriptor.inode x.inode (a_directory c.in_ok-descriptor.inode.kind c.in_ok-check_is_directory.ensures);
     }
 
 pub returns-in_err-names-clause-same : goal.returns-in_err-names-clause-same
@@ -41,7 +41,7 @@ returns-in_err-names-clause-performs g c =
     let x = c.in_ok-descriptor.ensures in
     interrupted_performs (readdir_by c.args.fd) x.same x.opened.is_open (g.S.Sectors.state c.list_names.new.s)
     c.from_residual-in_err-names.result c.in_err-names.field-0.0 r.0 r.1 c.in_err-names.ensures.same.store refl
-    c.in_err-names.ensures.fault
+    c.in_err-names.ensures.interrupts
 
 pub returns-clause-performs : goal.returns-clause-performs
 returns-clause-performs g c =

@@ -24,13 +24,10 @@ returns-in_err-check_new g c =
     not_opened old old c.from_residual.result e r.0 r.1 store_same
     (λ st i. none_is_there i c.requires.none old.disk old.disk e (sym c.in_err-check_new.ensures))
 
-pub check_make-requires-clause-sound : goal.check_make-requires-clause-sound
-check_make-requires-clause-sound g c = c.requires.may.sound
-
-pub check_make-requires-clause-there : goal.check_make-requires-clause-there
-check_make-requires-clause-there g c =
+pub check_make-requires : goal.check_make-requires
+check_make-requires g c =
     let x = c.requires.may in
-    (x.state.tree, state_tree x.found.is_state, directory_there x.found c.requires.none)
+    record { sound = x.sound; there = (x.state.tree, state_tree x.found.is_state, directory_there x.found c.requires.none) }
 
 pub returns-in_err-directory : goal.returns-in_err-directory
 returns-in_err-directory g c =
@@ -69,7 +66,7 @@ returns-in_err-acl g c =
     let same = c.in_ok-directory.ensures.same in
     let failed = c.in_err-acl.ensures in
     not_opened (g.S.Sectors.state c.args.s.now) new c.from_residual-in_err-acl.result c.in_err-acl.field-0.0 r.0 r.1 (store_joined same.store failed.same.store)
-    (λ st i. inr (interrupts_later new.disk same failed.err))
+    (λ st i. inr (interrupts_later new.disk same failed.interrupts))
 
 pub make_file-requires : goal.make_file-requires
 make_file-requires g c =
@@ -85,7 +82,7 @@ make_file-requires g c =
     let is = asked_later p x.state.tree dir_ino c.saturating_sub-step.result c.cred-cred.result.now v joined
     (c.in_ok-directory.ensures.each x.state.tree (state_tree x.found.is_state) (directory_there x.found c.requires.none)) in
     record {
-      sound = sound_kept joined x.sound;
+      ready = record { sound = sound_kept joined x.sound; spare = spare_unchanged p 47 old mid x.spare joined };
       directory = asked_of_it i c.requires.none may (inode_at p mid.sectors dir_ino) c.cred-cred.result.now c.saturating_sub-step.result
           c.cred-cred.ensures c.saturating_sub-step.ensures v is;
       may = (
@@ -93,7 +90,6 @@ make_file-requires g c =
         subst (CanMake p mid.sectors x.state.tree dir_ino) (sym c.bytes-name.ensures.all)
             (can_make i c.requires.none may (inode_at p mid.sectors dir_ino) c.cred-cred.result.now c.saturating_sub-step.result c.cred-cred.ensures c.saturating_sub-step.ensures v is),
       );
-      spare = spare_unchanged p 47 old mid x.spare joined;
     }
 
 pub returns-in_err-ino : goal.returns-in_err-ino
@@ -103,7 +99,7 @@ returns-in_err-ino g c =
     let joined = unchanged_joined c.in_ok-directory.ensures.same c.in_ok-acl.ensures.same in
     let failed = c.in_err-ino.ensures in
     not_opened (g.S.Sectors.state c.args.s.now) new c.from_residual-in_err-ino.result c.in_err-ino.field-0.0 r.0 r.1 (store_joined joined.store failed.store)
-    (λ st i. inr (interrupts_later new.disk joined (inr failed.err)))
+    (λ st i. inr (interrupts_later new.disk joined (inr failed.fault)))
 
 pub touch-requires : goal.touch-requires
 touch-requires g c =
@@ -117,7 +113,7 @@ touch-requires g c =
     let dir_ino = c.args.opening.now.found.dir_ino in
     prepared_may_touch (g.S.Sectors.state c.args.s.now) new x.sound x.spare (store_joined joined.store done.store)
     (file_prepares c.requires.none (sym c.in_ok-check_new.ensures) c.cred-cred.ensures c.saturating_sub-step.ensures asked.same acl.same asked.each c.args.opening.now.mode new.sectors
-    c.uid-uid.ensures c.bytes-name.ensures.all c.umask.ensures done.made c.new_group-gid.ensures acl.born x.found)
+    c.uid-uid.ensures c.bytes-name.ensures.all c.umask.ensures done.made c.new_group-gid.ensures acl.found x.found)
     (number_below (state_tree x.found.is_state) dir_ino (is_there x.state.tree dir_ino d.node d.is_there), (done.made.takes.free.1, tt)) 7
     (taken_after c.args.caller.now.geometry 7 new joined done.taken) (omega arith)
 
@@ -138,13 +134,13 @@ returns g c =
     let acl = c.in_ok-acl.ensures in
     let done = c.in_ok-ino.ensures in
     let joined = unchanged_joined asked.same acl.same in
-    let moved = c.in_ok-touch.ensures.moved in
+    let moved = c.in_ok-touch.ensures.made in
     record {
       store = store_joined (store_joined joined.store done.store) c.in_ok-touch.ensures.store;
       super = moved.super ∙ done.made.names.super ∙ done.made.takes.super ∙ joined.sectors 0;
       each = λ st i.
           reached i
           (file_prepares c.requires.none (sym c.in_ok-check_new.ensures) c.cred-cred.ensures c.saturating_sub-step.ensures asked.same acl.same asked.each c.args.opening.now.mode
-          (g.S.Sectors.state c.make_file.new.s).sectors c.uid-uid.ensures c.bytes-name.ensures.all c.umask.ensures done.made c.new_group-gid.ensures acl.born i)
+          (g.S.Sectors.state c.make_file.new.s).sectors c.uid-uid.ensures c.bytes-name.ensures.all c.umask.ensures done.made c.new_group-gid.ensures acl.found i)
           moved;
     }

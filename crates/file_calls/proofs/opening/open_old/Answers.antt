@@ -13,13 +13,10 @@ use Rattle.file_calls.proofs.OpenedTimes.{reached, prepared_may_touch}
 use Rattle.file_calls.proofs.OpenFound.{old_there, old_refused, old_inode, old_file, old_reached, old_emptied, not_opened}
 use Rattle.file_calls.proofs.opening.open_old.Goals as goal
 
-pub check_found-requires-clause-sound : goal.check_found-requires-clause-sound
-check_found-requires-clause-sound g c = c.requires.may.sound
-
-pub check_found-requires-clause-there : goal.check_found-requires-clause-there
-check_found-requires-clause-there g c =
+pub check_found-requires : goal.check_found-requires
+check_found-requires g c =
     let x = c.requires.may in
-    (x.state.tree, state_tree x.found.is_state, old_there x.found c.args.ino c.requires.some)
+    record { sound = x.sound; there = (x.state.tree, state_tree x.found.is_state, old_there x.found c.args.ino c.requires.some) }
 
 pub returns-in_err-inode : goal.returns-in_err-inode
 returns-in_err-inode g c =
@@ -58,12 +55,11 @@ give_size-requires g c =
     let v = c.in_ok-inode.inode in
     let spare = spare_unchanged c.args.caller.now.geometry 47 old new x.spare same in
     record {
-      sound = sound_kept same x.sound;
+      ready = record { sound = sound_kept same x.sound; spare = omega (arith, spare) };
       below = number_below (state_tree x.found.is_state) c.args.ino there;
       inode = kept (λ (m : SectorMap). v ≡ inode_at c.args.caller.now.geometry m c.args.ino) same (old_inode x.found c.args.ino c.requires.some c.cred-cred.result.now v c.cred-cred.ensures is);
       file = old_file x.found c.args.ino c.requires.some c.cred-cred.result.now v c.cred-cred.ensures is (sym c.cuts-cuts.ensures ∙ c.if-not-cuts.false);
       fits = omega arith;
-      spare = omega (arith, spare);
     }
 
 pub returns-in_err-give_size : goal.returns-in_err-give_size
@@ -88,7 +84,7 @@ touch-requires g c =
     let there = old_there i c.args.ino c.requires.some in
     prepared_may_touch old new x.sound x.spare (store_joined same.store done.store)
     (old_emptied i c.args.ino c.requires.some c.cred-cred.result.now c.in_ok-inode.inode c.cred-cred.ensures (c.in_ok-inode.ensures.each x.state.tree (state_tree i.is_state) there)
-    0 mid new (same_map same) (sym c.cuts-cuts.ensures ∙ c.if-not-cuts.false) done.change)
+    0 mid new (same_map same) (sym c.cuts-cuts.ensures ∙ c.if-not-cuts.false) done.made)
     (number_below (state_tree i.is_state) c.args.ino there, tt) 5 (taken_after c.args.caller.now.geometry 5 new same done.taken) (omega arith)
 
 pub returns-in_err-touch : goal.returns-in_err-touch
@@ -108,14 +104,14 @@ returns g c =
     let new = g.S.Sectors.state c.give_size.new.s in
     let same = c.in_ok-inode.ensures.same in
     let done = c.in_ok-give_size.ensures in
-    let moved = c.in_ok-touch.ensures.moved in
+    let moved = c.in_ok-touch.ensures.made in
     record {
       store = store_joined (store_joined same.store done.store) c.in_ok-touch.ensures.store;
-      super = moved.super ∙ done.change.super ∙ same.sectors 0;
+      super = moved.super ∙ done.made.super ∙ same.sectors 0;
       each = λ st i.
           reached i
           (old_emptied i c.args.ino c.requires.some c.cred-cred.result.now c.in_ok-inode.inode c.cred-cred.ensures
           (c.in_ok-inode.ensures.each st.tree (state_tree i.is_state) (old_there i c.args.ino c.requires.some))
-          c.args.opening.now.mode mid new (same_map same) (sym c.cuts-cuts.ensures ∙ c.if-not-cuts.false) done.change)
+          c.args.opening.now.mode mid new (same_map same) (sym c.cuts-cuts.ensures ∙ c.if-not-cuts.false) done.made)
           moved;
     }

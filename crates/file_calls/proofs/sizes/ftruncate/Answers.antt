@@ -36,12 +36,11 @@ give_size-requires g c =
     let met = few_enough (max_file_size c.args.caller.now.geometry.version) c.args.size (met_ok {A = Unit {0}} (refuse EFBIG (nat_lt (max_file_size c.args.caller.now.geometry.version) c.args.size)) tt tt (sym c.in_ok-check_size.ensures)).0 in
     let room = x.ready.spare in
     record {
-      sound = x.ready.sound;
+      ready = record { sound = x.ready.sound; spare = omega (arith, room) };
       below = open_below o x.ready.state x.ready.is_state;
       inode = x.inode;
       file = ap (λ (i : Inode). i.kind) x.inode ∙ file_kind o x.ready.state x.ready.is_state (open_to_write x.is_open);
       fits = met;
-      spare = omega (arith, room);
     }
 
 pub returns-in_err-give_size : goal.returns-in_err-give_size
@@ -62,7 +61,7 @@ touch-requires g c =
     let done = c.in_ok-give_size.ensures in
     let s = x.ready.state in
     let at = x.ready.is_state in
-    may_touch x.ready done.store (cuts mid o c.args.size s at new (open_to_write x.is_open) fits (process_stays o x.table) done.change)
+    may_touch x.ready done.store (cuts mid o c.args.size s at new (open_to_write x.is_open) fits (process_stays o x.table) done.made)
     (open_below o s at, tt) 5 done.taken (omega arith)
 
 pub returns-in_err-touch : goal.returns-in_err-touch
@@ -79,5 +78,5 @@ returns g c =
     let new = g.S.Sectors.state c.give_size.new.s in
     let done = c.in_ok-give_size.ensures in
     let stays = process_stays x.is_open.opened x.table in
-    changed_tree (ftruncate_by c.args.fd c.args.size) c.in_ok-descriptor.ensures.same x.is_open new c.args.caller.now.procs.now done.store done.change.super c.in_ok-touch.ensures.moved (λ p. p) Done stays
-    (λ s at. cuts mid x.is_open.opened c.args.size s at new (open_to_write x.is_open) fits stays done.change)
+    changed_tree (ftruncate_by c.args.fd c.args.size) c.in_ok-descriptor.ensures.same x.is_open new c.args.caller.now.procs.now done.store done.made.super c.in_ok-touch.ensures.made (λ p. p) Done stays
+    (λ s at. cuts mid x.is_open.opened c.args.size s at new (open_to_write x.is_open) fits stays done.made)

@@ -2,6 +2,7 @@ use Rattle.std.proofs.Common.{Err, ap, sym, subst, arith}
 use Rattle.fs_layout.specs.Bytes.{resized}
 use Rattle.block_map.specs.Contents.{AllowsSize}
 use Rattle.block_map.proofs.Wrote.{put_to_few}
+use Rattle.call_parts.proofs.Alterings.{fails}
 use Rattle.file_calls.proofs.Rewritten.{content_changes, fails_alone}
 use Rattle.file_calls.proofs.sizes.give_size.Goals as goal
 
@@ -9,22 +10,26 @@ pub set_size-requires-clause-kind : goal.set_size-requires-clause-kind
 set_size-requires-clause-kind g c = subst (λ k. AllowsSize k c.args.size) (sym c.requires.file) tt
 
 pub set_size-requires-clause-spare : goal.set_size-requires-clause-spare
-set_size-requires-clause-spare g c = let few = put_to_few c.args.size in let room = c.requires.spare in omega (arith, few, room)
+set_size-requires-clause-spare g c = let few = put_to_few c.args.size in let room = c.requires.ready.spare in omega (arith, few, room)
 
-pub returns-in-Ok-clause-change : goal.returns-in-Ok-clause-change
-returns-in-Ok-clause-change g c =
-    content_changes (λ held. resized held c.args.size) c.requires.inode c.in-Ok.ensures.change c.in-Ok.ensures.held
-
-pub returns-in-Ok-clause-taken : goal.returns-in-Ok-clause-taken
-returns-in-Ok-clause-taken g c =
+pub returns-in-Ok : goal.returns-in-Ok
+returns-in-Ok g c =
+    let e = c.in-Ok.ensures in
     let few = put_to_few c.args.size in
-    let room = c.in-Ok.ensures.change.touches.puts.room in
-    omega (arith, few, room)
+    let room = e.change.touches.puts.room in
+    record {
+      store = e.store;
+      sound = e.change.sound;
+      taken = omega (arith, few, room);
+      made = content_changes (λ held. resized held c.args.size) c.requires.inode e.change e.held;
+      fault = tt;
+    }
 
-pub returns-in-Err-clause-fault : goal.returns-in-Err-clause-fault
-returns-in-Err-clause-fault g c =
+pub returns-in-Err : goal.returns-in-Err
+returns-in-Err g c =
     let e = c.in-Err.ensures in
-    fails_alone (g.S.Sectors.state c.args.s.now).disk (g.S.Sectors.state c.set_size.new.s).disk c.in-Err.field-0
+    fails e.store
+    (fails_alone (g.S.Sectors.state c.args.s.now).disk (g.S.Sectors.state c.set_size.new.s).disk c.in-Err.field-0
     (λ big. let far = e.too_big.0 (ap (λ x. Err x) big) in let fits = c.requires.fits in omega (arith, far, fits))
     (λ full. e.never_full (ap (λ x. Err x) full))
-    e.cause.failed
+    e.cause.failed)

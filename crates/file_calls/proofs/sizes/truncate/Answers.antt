@@ -78,12 +78,11 @@ give_size-requires g c =
     let v = c.in_ok-reached.reached.inode in
     let spare = spare_unchanged c.args.caller.now.geometry 47 (g.S.Sectors.state c.reach.new.s) (g.S.Sectors.state c.permitted.new.s) x.walked.ready.spare same in
     record {
-      sound = sound_kept same x.walked.ready.sound;
+      ready = record { sound = sound_kept same x.walked.ready.sound; spare = omega (arith, spare) };
       below = reached_below x;
       inode = kept (λ m. v ≡ inode_at c.args.caller.now.geometry m c.in_ok-reached.reached.ino) same x.inode.inode;
       file = file_kind _ v.kind (reached_access x).kind (met_ok (refuse EISDIR (is_directory_kind v.kind)) tt tt (sym c.in_ok-check_no_directory.ensures)).0;
       fits = few_enough (max_file_size c.args.caller.now.geometry.version) c.args.size (met_ok (refuse EFBIG (nat_lt (max_file_size c.args.caller.now.geometry.version) c.args.size)) tt tt (sym c.in_ok-check_size.ensures)).0;
-      spare = omega (arith, spare);
     }
 
 pub returns-in_err-give_size : goal.returns-in_err-give_size
@@ -114,7 +113,7 @@ touch-requires g c =
     (c.in_ok-permitted.ensures.each a.access (access_held {mid = mid} {new = mid} at has i unchanged_nothing)) in
     may_touch w.ready (store_joined same.store done.store)
     (size_changed (state_kept same at) has i.some i.number (kept (λ m. v ≡ inode_at c.args.caller.now.geometry m n) same i.inode) c.args.size _ i.met file granted.0 fits
-    (few_enough (max_file_size c.args.caller.now.geometry.version) c.args.size fits) (file_kind _ v.kind (access_held {mid = mid} {new = mid} at has i unchanged_nothing).kind file) done.change)
+    (few_enough (max_file_size c.args.caller.now.geometry.version) c.args.size fits) (file_kind _ v.kind (access_held {mid = mid} {new = mid} at has i unchanged_nothing).kind file) done.made)
     (reached_below x.reached, tt) 5 (taken_after c.args.caller.now.geometry 5 (g.S.Sectors.state c.give_size.new.s) same done.taken) (omega arith)
 
 pub returns-in_err-touch : goal.returns-in_err-touch
@@ -133,9 +132,9 @@ returns g c =
     let file = (met_ok (refuse EISDIR (is_directory_kind v.kind)) tt tt (sym c.in_ok-check_no_directory.ensures)).0 in
     let fits = (met_ok (refuse EFBIG (nat_lt (max_file_size c.args.caller.now.geometry.version) c.args.size)) tt tt (sym c.in_ok-check_size.ensures)).0 in
     let same = c.in_ok-permitted.ensures.same in
-    let change = c.in_ok-give_size.ensures.change in
+    let change = c.in_ok-give_size.ensures.made in
     changed (truncate_by_path c.args.path.now c.args.size) x.same x.reached.walked (g.S.Sectors.state c.give_size.new.s)
-    (store_joined same.store c.in_ok-give_size.ensures.store) (change.super ∙ same.sectors 0) c.in_ok-touch.ensures.moved Done
+    (store_joined same.store c.in_ok-give_size.ensures.store) (change.super ∙ same.sectors 0) c.in_ok-touch.ensures.made Done
     (λ s has at.
     let a = followed_access n at has i.some in
     let granted = permission_granted {mid = mid} {new = mid} at has i unchanged_nothing c.cred-cred.result.now c.cred-cred.ensures (perms false true false) c.in_ok-permitted.field-0

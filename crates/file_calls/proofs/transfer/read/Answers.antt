@@ -38,7 +38,7 @@ returns-in_err-bytes-clause-performs g c =
     let x = rw c.caller-caller.ensures at c.in_ok-descriptor.ensures.opened in
     let failed = c.in_err-bytes.ensures in
     interrupted_performs (read_by c.args.fd c.args.len) c.in_ok-descriptor.ensures.same x.is_open (g.S.Sectors.state c.read_bytes.new.s)
-    c.from_residual-in_err-bytes.result c.in_err-bytes.field-0.0 r.0 r.1 failed.same.store refl failed.fault
+    c.from_residual-in_err-bytes.result c.in_err-bytes.field-0.0 r.0 r.1 failed.same.store refl failed.interrupts
 
 pub returns-in_err-bytes-clause-same : goal.returns-in_err-bytes-clause-same
 returns-in_err-bytes-clause-same g c = unchanged_joined c.in_ok-descriptor.ensures.same c.in_err-bytes.ensures.same

@@ -90,7 +90,10 @@ write_bytes-requires g c =
     let near = subst (λ (x : ℕ). c.write_offset-offset.result < x) c.max_file_size-limit.ensures.value c.if-offset-limit.false in
     let len = length-take c.write_count-count.result c.bytes-bytes.result.now in
     record {
-      sound = sound_kept same c.requires.ready.sound;
+      ready = record {
+        sound = sound_kept same c.requires.ready.sound;
+        spare = spare_unchanged c.args.asker.geometry 47 old new c.requires.ready.spare same;
+      };
       below = open_below w.opened c.requires.ready.state c.requires.ready.is_state;
       inode = kept (λ (m : SectorMap). v ≡ inode_at c.args.asker.geometry m c.descriptor.inside.ino) same is;
       file = ap (λ (i : Inode). i.kind) is ∙ file_kind w.opened c.requires.ready.state c.requires.ready.is_state (open_to_write w);
@@ -99,7 +102,6 @@ write_bytes-requires g c =
       space = kept (λ (m : SectorMap). free_for (length (take c.write_count-count.result c.bytes-bytes.result.now)) ≤ free_sectors c.args.asker.geometry m) c.in_ok-ask_to_write.ensures.same
           (enough_for_some (length (take c.write_count-count.result c.bytes-bytes.result.now)) (length c.bytes-bytes.result.now) (free_sectors c.args.asker.geometry mid.sectors) (omega (arith, len))
           (is_enough (free_sectors c.args.asker.geometry mid.sectors) (free_for (length c.bytes-bytes.result.now)) c.in_ok-ask_to_write.ensures.each));
-      spare = spare_unchanged c.args.asker.geometry 47 old new c.requires.ready.spare same;
     }
 
 pub returns-in_err-write_bytes : goal.returns-in_err-write_bytes
@@ -108,7 +110,7 @@ returns-in_err-write_bytes g c =
     let same = unchanged_joined c.in_ok-inode.ensures.same c.in_ok-ask_to_write.ensures.same in
     let failed = c.in_err-write_bytes.ensures in
     unread_performs (write_by c.args.fd c.args.bytes.now) same c.in_ok-descriptor.ensures.is_open (g.S.Sectors.state c.write_bytes.new.s)
-    c.from_residual-in_err-write_bytes.result c.in_err-write_bytes.field-0.0 r.0 r.1 failed.store (λ s at. inr failed.err)
+    c.from_residual-in_err-write_bytes.result c.in_err-write_bytes.field-0.0 r.0 r.1 failed.store (λ s at. inr failed.fault)
 
 pub touch-requires : goal.touch-requires
 touch-requires g c =
@@ -125,7 +127,7 @@ touch-requires g c =
     let ready = ready_kept (unchanged_joined first.same second.same) c.requires.ready in
     let s = ready.state in
     may_touch ready done.store
-    (wrote w first.same second.same first.found from near all some c.bytes-bytes.ensures.valid second.each c.write_count-count.ensures done.change s ready.is_state s.processes (λ n was. was))
+    (wrote w first.same second.same first.found from near all some c.bytes-bytes.ensures.valid second.each c.write_count-count.ensures done.made s ready.is_state s.processes (λ n was. was))
     (open_below w.opened s ready.is_state, tt) 40 done.taken (omega arith)
 
 pub returns-in_err-touch : goal.returns-in_err-touch
@@ -150,7 +152,7 @@ returns g c =
     let done = c.in_ok-write_bytes.ensures in
     let count = c.write_count-count.result in
     let to = offset + count in
-    changed_tree (write_by c.args.fd c.args.bytes.now) (unchanged_joined first.same second.same) w (g.S.Sectors.state c.write_bytes.new.s) c.seek.new.self done.store done.change.super
-    c.in_ok-touch.ensures.moved (λ p. with_offset p c.args.fd to) (Wrote count) c.seek.ensures.moved
-    (λ s at. wrote w first.same second.same first.found from near all some c.bytes-bytes.ensures.valid second.each c.write_count-count.ensures done.change s at
+    changed_tree (write_by c.args.fd c.args.bytes.now) (unchanged_joined first.same second.same) w (g.S.Sectors.state c.write_bytes.new.s) c.seek.new.self done.store done.made.super
+    c.in_ok-touch.ensures.made (λ p. with_offset p c.args.fd to) (Wrote count) c.seek.ensures.moved
+    (λ s at. wrote w first.same second.same first.found from near all some c.bytes-bytes.ensures.valid second.each c.write_count-count.ensures done.made s at
     c.seek.new.self (still_now w.opened s at c.seek.new.self (λ p. with_offset p c.args.fd to) c.seek.ensures.moved (offset_stays_open w.opened c.in_ok-descriptor.ensures.table to)))

@@ -45,7 +45,7 @@ pub returns-in_err-inherits : goal.returns-in_err-inherits
 returns-in_err-inherits g c =
     let same = c.in_ok-directory.ensures.same in
     makes_broken _ _ c.from_residual-in_err-inherits.ensures (store_joined same.store c.in_err-inherits.ensures.same.store)
-    (interrupts_later (g.S.Sectors.state c.default_of.new.s).disk same c.in_err-inherits.ensures.err)
+    (interrupts_later (g.S.Sectors.state c.default_of.new.s).disk same c.in_err-inherits.ensures.interrupts)
 
 pub returns-in_err-access : goal.returns-in_err-access
 returns-in_err-access g c =

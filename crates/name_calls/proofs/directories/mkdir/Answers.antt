@@ -66,4 +66,4 @@ returns g c =
     made_done asked (mkdir_by_path c.args.path.now c.args.mode c.check_mode-checks.result c.check_mode-checks.ensures) x.same x.walked (is_new_name f (sym c.in_ok-check_new.ensures)).1
     last c.in_ok-ino.ino (λ (t : Tree). born_directory q.cred q.umask c.args.mode (the_node t f.dir_ino)) c.in_ok-ino.ensures.each
     (λ s has at. directory_changes at q f has x.walked.bytes (sym c.in_ok-check_new.ensures) c.args.mode last.sectors c.in_ok-ino.ino)
-    c.in_ok-ino.ensures.store c.in_ok-touch.ensures.moved
+    c.in_ok-ino.ensures.store c.in_ok-touch.ensures.made

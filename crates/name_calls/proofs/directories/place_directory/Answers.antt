@@ -5,7 +5,7 @@ use Rattle.inode_table.specs.Acls.{acls_take}
 use Rattle.call_parts.proofs.NewFile.{dir_below, dir_kept}
 use Rattle.call_parts.specs.NewNodes.{MayBeNamed, NamesInode, directory_made}
 use Rattle.call_parts.proofs.NewNames.{room_then, was_taken}
-use Rattle.name_calls.proofs.Alterings.{fails, altered, not_altered_later}
+use Rattle.call_parts.proofs.Alterings.{fails, altered, not_altered_later}
 use Rattle.name_calls.proofs.BornDirectories.{directory_fits, acls_few, directory_taken}
 use Rattle.name_calls.proofs.directories.place_directory.Goals as goal
 
@@ -38,18 +38,17 @@ name_inode-requires g c =
     let spare = c.requires.ready.spare in
     let taken = e.touches.puts.room in
     record {
-      sound = e.sound;
+      ready = record { sound = e.sound; spare = omega (arith, spare, taken) };
       inode = c.requires.directory ∙ sym (dir_kept can.holds can.directory c.in-Ok.ino e.free e.touches.inode);
       room = subst (MayBeNamed c.args.geometry mid.sectors f.dir_ino) (sym c.bytes-name.ensures.all)
           (room_then can mid.sectors c.in-Ok.ino (record { node = directory_made c.args.uid c.args.gid c.args.bits c.args.access.now default; names = 1; parent = f.dir_ino })
           (directory_taken e.free e.touches e.used f.dir_ino c.args.uid c.args.gid c.args.bits c.requires.bits c.args.access.now default e.fields e.empty e.access e.default)
           (omega (arith, few, left)));
-      spare = omega (arith, spare, taken);
     }
 
 pub returns-in_err-name_inode : goal.returns-in_err-name_inode
 returns-in_err-name_inode g c =
-    not_altered_later _ _ c.from_residual.ensures c.in-Ok.ensures.store c.in_err-name_inode.ensures.store c.in_err-name_inode.ensures.err
+    not_altered_later _ _ c.from_residual.ensures c.in-Ok.ensures.store c.in_err-name_inode.ensures.store c.in_err-name_inode.ensures.fault
 
 pub returns : goal.returns
 returns g c =
@@ -62,5 +61,5 @@ returns g c =
     (record {
       mid = mid;
       takes = directory_taken e.free e.touches e.used f.dir_ino c.args.uid c.args.gid c.args.bits c.requires.bits c.args.access.now default e.fields e.empty e.access e.default;
-      names = subst (λ (q : List ℕ). NamesInode c.args.geometry f.dir_ino q c.in-Ok.ino mid (g.S.Sectors.state c.name_inode.new.s).sectors) c.bytes-name.ensures.all done.named;
+      names = subst (λ (q : List ℕ). NamesInode c.args.geometry f.dir_ino q c.in-Ok.ino mid (g.S.Sectors.state c.name_inode.new.s).sectors) c.bytes-name.ensures.all done.made;
     })

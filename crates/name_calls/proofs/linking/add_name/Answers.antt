@@ -2,7 +2,7 @@ use Rattle.std.proofs.Common.{◌≢◌, ◌+◌, ℕ, List, sym, ap, arith, sub
 use Rattle.fs_layout.specs.declared.inode.Inode.{Inode}
 use Rattle.fs_layout.specs.declared.inode.Kind.TheVariants as kinds
 use Rattle.call_parts.specs.NewNodes.{MayBeNamed, NamesInode}
-use Rattle.name_calls.proofs.Alterings.{altered, not_altered, not_altered_later}
+use Rattle.call_parts.proofs.Alterings.{altered, not_altered, not_altered_later}
 use Rattle.name_calls.proofs.Linkings.{target_below, target_used, dir_same, dir_room, link_holds}
 use Rattle.name_calls.proofs.linking.add_name.Goals as goal
 
@@ -28,29 +28,28 @@ pub name_inode-requires : goal.name_inode-requires
 name_inode-requires g c =
     let x = c.requires.may in
     let old = g.S.Sectors.state c.args.s.now in
-    let counts = c.in_ok-set_names.ensures.counts in
+    let counts = c.in_ok-set_names.ensures.made in
     let more = ap (λ (v : Inode). v.names + 1) c.requires.inode in
     let spare = x.0.spare in
     let taken = counts.touches.puts.room in
     record {
-      sound = counts.sound;
+      ready = record { sound = counts.sound; spare = omega (arith, spare, taken) };
       inode = c.requires.directory ∙ sym (dir_same old x.0.is_state x.1 more counts);
       room = subst (MayBeNamed c.args.caller.now.geometry (g.S.Sectors.state c.set_names.new.s).sectors c.args.found.now.dir_ino) (sym c.bytes-name.ensures.all)
           (dir_room old x.0.is_state x.1 more counts);
-      spare = omega (arith, spare, taken);
     }
 
 pub returns-in_err-name_inode : goal.returns-in_err-name_inode
 returns-in_err-name_inode g c =
-    not_altered_later _ _ c.from_residual-in_err-name_inode.ensures c.in_ok-set_names.ensures.store c.in_err-name_inode.ensures.store c.in_err-name_inode.ensures.err
+    not_altered_later _ _ c.from_residual-in_err-name_inode.ensures c.in_ok-set_names.ensures.store c.in_err-name_inode.ensures.store c.in_err-name_inode.ensures.fault
 
 pub returns : goal.returns
 returns g c =
     let new = (g.S.Sectors.state c.name_inode.new.s).sectors in
-    let counts = c.in_ok-set_names.ensures.counts in
+    let counts = c.in_ok-set_names.ensures.made in
     let done = c.in_ok-name_inode.ensures in
     let named = subst (λ (q : List ℕ). NamesInode c.args.caller.now.geometry c.args.found.now.dir_ino q c.args.ino (g.S.Sectors.state c.set_names.new.s).sectors new)
-    c.bytes-name.ensures.all done.named in
+    c.bytes-name.ensures.all done.made in
     altered tt 1 4 (omega arith) c.in_ok-set_names.ensures.store counts.touches.puts.room done.store done.sound done.taken
     (record {
       super = named.super ∙ counts.touches.super;

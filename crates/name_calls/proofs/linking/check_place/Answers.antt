@@ -5,7 +5,7 @@ use Rattle.fs_model.specs.Demands.{first_of}
 use Rattle.bit_alloc.proofs.Transactions.{unchanged_joined}
 use Rattle.call_parts.proofs.Calling.{met_ok}
 use Rattle.path_walk.proofs.Kept.{kept, kept_back, sound_kept}
-use Rattle.call_parts.specs.Reaching.{checked}
+use Rattle.call_parts.specs.Telling.{checked}
 use Rattle.call_parts.specs.Makings.{room_asked}
 use Rattle.call_parts.proofs.Refuses.{Refuses, passed, passed_later, refused_by, answered_ok, tree_kept}
 use Rattle.name_calls.specs.Linking.{place_asked}

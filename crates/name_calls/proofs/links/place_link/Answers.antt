@@ -2,7 +2,7 @@ use Rattle.std.proofs.Common.{ℕ, List, refl, sym, subst, arith, ◌∙◌}
 use Rattle.call_parts.proofs.NewFile.{dir_kept}
 use Rattle.call_parts.specs.NewNodes.{MayBeNamed, NamesInode, link_made}
 use Rattle.call_parts.proofs.NewNames.{room_then, was_taken}
-use Rattle.name_calls.proofs.Alterings.{fails, altered, not_altered_later}
+use Rattle.call_parts.proofs.Alterings.{fails, altered, not_altered_later}
 use Rattle.name_calls.proofs.BornLinks.{link_taken, none_free, target_size}
 use Rattle.name_calls.proofs.links.place_link.Goals as goal
 
@@ -27,18 +27,17 @@ name_inode-requires g c =
     let spare = c.requires.ready.spare in
     let taken = e.touches.puts.room in
     record {
-      sound = e.sound;
+      ready = record { sound = e.sound; spare = omega (arith, spare, taken) };
       inode = c.requires.directory ∙ sym (dir_kept can.holds can.directory c.in-Ok.ino e.free e.touches.inode);
       room = subst (MayBeNamed c.args.geometry mid.sectors f.dir_ino) (sym c.bytes-name.ensures.all)
           (room_then can mid.sectors c.in-Ok.ino (record { node = link_made c.args.directory c.args.cred.now c.args.target.now; names = 1; parent = f.dir_ino })
           (link_taken e.free e.touches e.used f.dir_ino c.uid-uid.result c.new_group-gid.result c.args.directory c.args.cred.now c.args.target.now c.uid-uid.ensures c.new_group-gid.ensures
           e.fields e.acls e.holds e.whole) (omega (arith, left)));
-      spare = omega (arith, spare, taken);
     }
 
 pub returns-in_err-name_inode : goal.returns-in_err-name_inode
 returns-in_err-name_inode g c =
-    not_altered_later _ _ c.from_residual.ensures c.in-Ok.ensures.store c.in_err-name_inode.ensures.store c.in_err-name_inode.ensures.err
+    not_altered_later _ _ c.from_residual.ensures c.in-Ok.ensures.store c.in_err-name_inode.ensures.store c.in_err-name_inode.ensures.fault
 
 pub returns : goal.returns
 returns g c =
@@ -51,5 +50,5 @@ returns g c =
       mid = mid;
       takes = link_taken e.free e.touches e.used f.dir_ino c.uid-uid.result c.new_group-gid.result c.args.directory c.args.cred.now c.args.target.now c.uid-uid.ensures c.new_group-gid.ensures
           e.fields e.acls e.holds e.whole;
-      names = subst (λ (q : List ℕ). NamesInode c.args.geometry f.dir_ino q c.in-Ok.ino mid (g.S.Sectors.state c.name_inode.new.s).sectors) c.bytes-name.ensures.all done.named;
+      names = subst (λ (q : List ℕ). NamesInode c.args.geometry f.dir_ino q c.in-Ok.ino mid (g.S.Sectors.state c.name_inode.new.s).sectors) c.bytes-name.ensures.all done.made;
     })

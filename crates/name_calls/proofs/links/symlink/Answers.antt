@@ -69,4 +69,4 @@ returns g c =
     (is_link_name f (sym c.in_ok-check_link_name.ensures)).1 last c.in_ok-ino.ino (λ (t : Tree). born_link q.cred c.args.target.now (the_node t f.dir_ino)) c.in_ok-ino.ensures.each
     (λ s has at. link_changes at q f has x.walked.bytes (sym c.in_ok-check_link_name.ensures) c.args.target.now
     (is_target c.args.target.now c.check_target-checks.result c.check_target-checks.ensures.answer x.walked.fine c.check_target-checks.ensures.bytes) last.sectors c.in_ok-ino.ino)
-    c.in_ok-ino.ensures.store c.in_ok-touch.ensures.moved
+    c.in_ok-ino.ensures.store c.in_ok-touch.ensures.made

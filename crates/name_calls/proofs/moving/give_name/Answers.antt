@@ -1,4 +1,4 @@
-use Rattle.std.proofs.Common.{◌≡◌, ℕ, List, OnOk, subst, sym, arith}
+use Rattle.std.proofs.Common.{◌≡◌, ℕ, List, subst, sym, arith}
 use Rattle.fs_layout.specs.declared.inode.Inode.{Inode}
 use Rattle.fs_layout.specs.Bytes.{SectorMap}
 use Rattle.fs_layout.specs.Directories.{HasNames}
@@ -6,9 +6,10 @@ use Rattle.fs_layout.specs.Images.{inode_at}
 use Rattle.sector_txn.proofs.TransactionRuns.{store_joined}
 use Rattle.bit_alloc.proofs.Transactions.{puts_after, spare_unchanged}
 use Rattle.path_walk.proofs.Kept.{kept, sound_kept}
+use Rattle.call_parts.specs.Altering.{AltersDisk}
 use Rattle.call_parts.specs.NewNodes.{HasName, MayBeNamed, NamesInode}
 use Rattle.call_parts.proofs.Removed.{names_changed, fails_to_change}
-use Rattle.name_calls.proofs.Alterings.{fails, not_altered, altered_after}
+use Rattle.call_parts.proofs.Alterings.{fails, not_altered, altered_after}
 use Rattle.name_calls.proofs.Movings.{is_nothing, is_something, lead_below, lead_room, lead_named}
 use Rattle.name_calls.proofs.moving.give_name.Goals as goal
 
@@ -24,11 +25,13 @@ name_inode-requires g c =
     let same = c.in_ok-directory.ensures.same in
     let none = is_nothing f.ino c.is_none.result c.is_none.ensures c.if-is_none.true in
     record {
-      sound = sound_kept same c.requires.ready.sound;
+      ready = record {
+        sound = sound_kept same c.requires.ready.sound;
+        spare = spare_unchanged p 4 old (g.S.Sectors.state c.load_inode.new.s) c.requires.ready.spare same;
+      };
       inode = kept (λ (m : SectorMap). c.in_ok-directory.directory ≡ inode_at p m f.dir_ino) same c.in_ok-directory.ensures.found;
       room = kept (λ (m : SectorMap). MayBeNamed p m f.dir_ino c.bytes-name.result.now) same
           (subst (MayBeNamed p old.sectors f.dir_ino) (sym c.bytes-name.ensures.all) (lead_room p old.sectors f.dir_ino f.name f.ino none c.requires.may));
-      spare = spare_unchanged p 4 old (g.S.Sectors.state c.load_inode.new.s) c.requires.ready.spare same;
     }
 
 pub returns-in_err-directory : goal.returns-in_err-directory
@@ -36,16 +39,9 @@ returns-in_err-directory g c = not_altered _ _ c.from_residual.ensures c.in_err-
 
 pub returns-then-is_none : goal.returns-then-is_none
 returns-then-is_none g c =
-    let named = c.name_inode.ensures in
     altered_after c.name_inode.result c.in_ok-directory.ensures.same
-    (record {
-      store = named.store;
-      sound = named.sound;
-      taken = named.taken;
-      made = subst (λ (q : List ℕ). OnOk c.name_inode.result (NamesInode c.args.geometry c.args.second.now.dir_ino q c.args.ino (g.S.Sectors.state c.load_inode.new.s).sectors (g.S.Sectors.state c.name_inode.new.s).sectors))
-          c.bytes-name.ensures.all named.named;
-      fault = named.err;
-    })
+    (subst (λ (q : List ℕ). AltersDisk c.args.geometry 4 (λ (done : Unit {0}). NamesInode c.args.geometry c.args.second.now.dir_ino q c.args.ino) (g.S.Sectors.state c.load_inode.new.s) (g.S.Sectors.state c.name_inode.new.s) c.name_inode.result)
+    c.bytes-name.ensures.all c.name_inode.ensures)
 
 pub replace-requires : goal.replace-requires
 replace-requires g c =

@@ -2,7 +2,7 @@ use Rattle.std.proofs.Common.{List, ℕ, arith, subst, sym}
 use Rattle.call_parts.specs.Dropping.{RemovesName}
 use Rattle.call_parts.specs.NewNodes.{HasName}
 use Rattle.name_calls.specs.Moving.{across}
-use Rattle.name_calls.proofs.Alterings.{altered, not_altered, not_altered_later}
+use Rattle.call_parts.proofs.Alterings.{altered, not_altered, not_altered_later}
 use Rattle.name_calls.proofs.Movings.{is_nothing, is_something, dir_below, named_first, may_lead}
 use Rattle.name_calls.proofs.moving.move_entry.Goals.{else-first-second-via-then-first-second+else-is_none, else-first-second-via-else-first-second}
 use Rattle.name_calls.proofs.moving.move_entry.Goals as goal
@@ -28,10 +28,9 @@ remove_name-requires g c =
     let old = g.S.Sectors.state c.args.s.now in
     let spare = x.0.spare in
     record {
-      sound = x.0.sound;
+      ready = record { sound = x.0.sound; spare = omega (arith, spare) };
       below = dir_below old x.0.is_state x.1;
       named = subst (HasName c.args.caller.now.geometry old.sectors c.args.first.now.dir_ino) (sym c.bytes-name.ensures.all) (named_first old x.0.is_state x.1);
-      spare = omega (arith, spare);
     }
 
 pub returns-in_err-remove_name : goal.returns-in_err-remove_name
@@ -43,7 +42,7 @@ give_name-requires g c =
     let x = c.requires.may in
     let old = g.S.Sectors.state c.args.s.now in
     let mid = g.S.Sectors.state c.remove_name.new.s in
-    let removes = subst (λ (q : List ℕ). RemovesName c.args.caller.now.geometry c.args.first.now.dir_ino q old mid) c.bytes-name.ensures.all c.in_ok-remove_name.ensures.removes in
+    let removes = subst (λ (q : List ℕ). RemovesName c.args.caller.now.geometry c.args.first.now.dir_ino q old mid) c.bytes-name.ensures.all c.in_ok-remove_name.ensures.made in
     let spare = x.0.spare in
     let room = removes.touches.puts.room in
     record {
@@ -64,6 +63,6 @@ pub returns : goal.returns
 returns g c =
     let mid = g.S.Sectors.state c.remove_name.new.s in
     let removes = subst (λ (q : List ℕ). RemovesName c.args.caller.now.geometry c.args.first.now.dir_ino q (g.S.Sectors.state c.args.s.now) mid) c.bytes-name.ensures.all
-    c.in_ok-remove_name.ensures.removes in
+    c.in_ok-remove_name.ensures.made in
     let gives = c.in_ok-give_name.ensures in
     altered tt 5 4 (omega arith) c.in_ok-remove_name.ensures.store removes.touches.puts.room gives.store gives.sound gives.taken (across mid.sectors removes.names gives.made)

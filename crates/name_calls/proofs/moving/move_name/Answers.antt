@@ -3,7 +3,7 @@ use Rattle.fs_layout.specs.declared.inode.Inode.{Inode}
 use Rattle.fs_layout.specs.declared.inode.Kind.TheVariants as kinds
 use Rattle.sector_txn.proofs.TransactionRuns.{store_joined}
 use Rattle.fs_model.specs.Processes.{is_open}
-use Rattle.name_calls.proofs.Alterings.{not_altered, not_altered_later}
+use Rattle.call_parts.proofs.Alterings.{not_altered, not_altered_later}
 use Rattle.name_calls.proofs.Droppings.{lost_sound, lost_touches}
 use Rattle.name_calls.proofs.Movings.{follow_super, there_is, nothing_there, moved_below, moved_used, entry_super, moved_same, moved_none, replaced_number, replaced_same, replaced_used, replaced_named, replaced_holds}
 use Rattle.name_calls.proofs.moving.move_name.Goals as goal
@@ -70,11 +70,11 @@ returns-in_ok-lose_name g c =
     let there = there_is c.args.caller.now.geometry old.sectors c.args.walked.now.second.ino c.in-Some.m c.in-Some.inode (sym c.in-Some.is ∙ c.requires.replaced) in
     record {
       store = store_joined (store_joined entry.store follows.store) lost.store;
-      sound = lost_sound lost.loses;
-      taken = (let first = entry.taken in let then = follows.taken in let last = (lost_touches lost.loses).puts.room in omega (arith, first, then, last));
+      sound = lost_sound lost.made;
+      taken = (let first = entry.taken in let then = follows.taken in let last = (lost_touches lost.made).puts.room in omega (arith, first, then, last));
       made = record {
-        super = (lost_touches lost.loses).super ∙ follow_super follows.made ∙ entry_super old x.0.is_state x.1 entry.made;
-        holds = λ st at may. replaced_holds old at may entry.made follows.made there.0 (is_open c.args.caller.now.procs.now c.in-Some.m) refl lost.loses;
+        super = (lost_touches lost.made).super ∙ follow_super follows.made ∙ entry_super old x.0.is_state x.1 entry.made;
+        holds = λ st at may. replaced_holds old at may entry.made follows.made there.0 (is_open c.args.caller.now.procs.now c.in-Some.m) refl lost.made;
       };
       fault = tt;
     }

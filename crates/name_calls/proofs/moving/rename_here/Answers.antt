@@ -13,7 +13,7 @@ use Rattle.path_walk.proofs.Kept.{kept, sound_kept}
 use Rattle.call_parts.specs.NewNodes.{HasName}
 use Rattle.call_parts.proofs.Removed.{names_changed, fails_to_change}
 use Rattle.name_calls.specs.Moving.{within}
-use Rattle.name_calls.proofs.Alterings.{fails, not_altered}
+use Rattle.call_parts.proofs.Alterings.{fails, not_altered}
 use Rattle.name_calls.proofs.Movings.{dir_below, named_first, named_here, leads_first}
 use Rattle.name_calls.proofs.moving.rename_here.Goals as goal
 

@@ -2,7 +2,7 @@ use Rattle.std.proofs.Common.{rules, ◌≡◌, sym, ap, ◌∙◌, Bool, not}
 use Rattle.fs_cred.specs.declared.errno.Errno.TheVariants.{ENOTEMPTY}
 use Rattle.fs_layout.specs.declared.inode.Kind.TheVariants as kinds
 use Rattle.fs_model.specs.Demands.{refuse}
-use Rattle.call_parts.specs.Reaching.{checked}
+use Rattle.call_parts.specs.Telling.{checked}
 use Rattle.name_calls.proofs.RemovalAsked.{directory_checked}
 use Rattle.name_calls.proofs.removal.check_directory.Goals as goal
 

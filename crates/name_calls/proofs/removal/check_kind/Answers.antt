@@ -3,7 +3,7 @@ use Rattle.fs_cred.specs.declared.errno.Errno.TheVariants.{EISDIR}
 use Rattle.fs_model.specs.Demands.{refuse, first_of}
 use Rattle.fs_model.specs.Nodes.{is_directory}
 use Rattle.fs_model.specs.Processes.{is_in_use}
-use Rattle.call_parts.specs.Reaching.{checked}
+use Rattle.call_parts.specs.Telling.{checked}
 use Rattle.call_parts.proofs.Calling.{or_else-none}
 use Rattle.name_calls.specs.declared.removal.Target.{Target}
 use Rattle.name_calls.specs.Removing.{kind_asked}

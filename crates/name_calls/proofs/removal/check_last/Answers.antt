@@ -1,6 +1,6 @@
 use Rattle.std.proofs.Common.{sym, ap, ◌∙◌}
 use Rattle.fs_model.specs.Demands.{first_of}
-use Rattle.call_parts.specs.Reaching.{checked}
+use Rattle.call_parts.specs.Telling.{checked}
 use Rattle.name_calls.specs.declared.removal.Target.{Target}
 use Rattle.name_calls.specs.Removing.{last_asked}
 use Rattle.name_calls.proofs.removal.check_last.Goals as goal

@@ -6,7 +6,7 @@ use Rattle.fs_model.specs.Processes.{is_open}
 use Rattle.fs_model.proofs.OneNode.{body_not_free}
 use Rattle.call_parts.specs.Dropping.{RemovesName}
 use Rattle.call_parts.specs.NewNodes.{HasName}
-use Rattle.name_calls.proofs.Alterings.{altered, not_altered, not_altered_later}
+use Rattle.call_parts.proofs.Alterings.{altered, not_altered, not_altered_later}
 use Rattle.name_calls.proofs.Droppings.{lost_sound, lost_touches}
 use Rattle.name_calls.proofs.Takings.{dir_below, is_number, named_there, target_same, target_held, target_named, taken_holds}
 use Rattle.name_calls.proofs.removal.take_name.Goals as goal
@@ -17,10 +17,9 @@ remove_name-requires g c =
     let old = g.S.Sectors.state c.args.s.now in
     let spare = x.0.spare in
     record {
-      sound = x.0.sound;
+      ready = record { sound = x.0.sound; spare = omega (arith, spare) };
       below = dir_below old x.0.is_state x.1;
       named = subst (HasName c.args.caller.now.geometry old.sectors c.args.found.now.dir_ino) (sym c.bytes-name.ensures.all) (named_there old x.0.is_state x.1);
-      spare = omega (arith, spare);
     }
 
 pub returns-in_err-remove_name : goal.returns-in_err-remove_name
@@ -33,7 +32,7 @@ lose_name-requires g c =
     let old = g.S.Sectors.state c.args.s.now in
     let mid = g.S.Sectors.state c.remove_name.new.s in
     let at = x.0.is_state in
-    let removes = subst (λ (q : List ℕ). RemovesName p c.args.found.now.dir_ino q old mid) c.bytes-name.ensures.all c.in_ok-remove_name.ensures.removes in
+    let removes = subst (λ (q : List ℕ). RemovesName p c.args.found.now.dir_ino q old mid) c.bytes-name.ensures.all c.in_ok-remove_name.ensures.made in
     let is = c.requires.inode ∙ sym (target_same old at x.1 removes) in
     let number = is_number old at x.1 in
     let spare = x.0.spare in
@@ -59,11 +58,11 @@ pub returns : goal.returns
 returns g c =
     let old = g.S.Sectors.state c.args.s.now in
     let removes = subst (λ (q : List ℕ). RemovesName c.args.caller.now.geometry c.args.found.now.dir_ino q old (g.S.Sectors.state c.remove_name.new.s)) c.bytes-name.ensures.all
-    c.in_ok-remove_name.ensures.removes in
+    c.in_ok-remove_name.ensures.made in
     let lost = c.in_ok-lose_name.ensures in
-    let touches = lost_touches lost.loses in
-    altered tt 5 1 (omega arith) c.in_ok-remove_name.ensures.store removes.touches.puts.room lost.store (lost_sound lost.loses) touches.puts.room
+    let touches = lost_touches lost.made in
+    altered tt 5 1 (omega arith) c.in_ok-remove_name.ensures.store removes.touches.puts.room lost.store (lost_sound lost.made) touches.puts.room
     (record {
       super = touches.super ∙ removes.touches.super;
-      holds = λ st at may. taken_holds old at may removes (is_open c.args.caller.now.procs.now c.args.ino) refl lost.loses;
+      holds = λ st at may. taken_holds old at may removes (is_open c.args.caller.now.procs.now c.args.ino) refl lost.made;
     })

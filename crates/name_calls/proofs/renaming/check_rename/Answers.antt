@@ -32,14 +32,15 @@ returns-then-is_same g c = record {
   same = c.in_ok-ino.ensures.same;
 }
 
-pub check_move-requires-clause-sound : goal.check_move-requires-clause-sound
-check_move-requires-clause-sound g c = sound_kept c.in_ok-ino.ensures.same c.requires.sound
-
-pub check_move-requires-clause-names : goal.check_move-requires-clause-names
-check_move-requires-clause-names g c =
+pub check_move-requires : goal.check_move-requires
+check_move-requires g c =
     let x = c.requires.found in
     let i = x.1 in
-    (x.0, to_rename_kept c.in_ok-ino.ensures.same (to_rename i (c.in_ok-ino.ensures.each x.0.tree (state_tree i.is_state) (both_there i))).1)
+    let same = c.in_ok-ino.ensures.same in
+    record {
+      sound = sound_kept same c.requires.sound;
+      found = (x.0, to_rename_kept same (to_rename i (c.in_ok-ino.ensures.each x.0.tree (state_tree i.is_state) (both_there i))).1);
+    }
 
 pub returns-in_err-check_move : goal.returns-in_err-check_move
 returns-in_err-check_move g c = record {

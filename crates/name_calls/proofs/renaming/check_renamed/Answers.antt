@@ -4,7 +4,7 @@ use Rattle.bit_alloc.proofs.Transactions.{unchanged_nothing, unchanged_joined}
 use Rattle.call_parts.proofs.Calling.{met_ok}
 use Rattle.path_walk.proofs.HeldNodes.{number_below}
 use Rattle.path_walk.proofs.Kept.{sound_kept, interrupted, interrupts_later}
-use Rattle.call_parts.specs.Reaching.{checked}
+use Rattle.call_parts.specs.Telling.{checked}
 use Rattle.call_parts.proofs.Refuses.{passed, refused_by, broken, answered_ok, tree_kept}
 use Rattle.call_parts.proofs.Shown.{is_inode}
 use Rattle.name_calls.specs.Renaming.{inode_there}

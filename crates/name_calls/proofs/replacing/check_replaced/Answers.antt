@@ -3,7 +3,7 @@ use Rattle.fs_layout.specs.declared.inode.Inode.{Inode}
 use Rattle.fs_layout.specs.declared.inode.Kind.TheVariants as kinds
 use Rattle.fs_model.specs.Rules.{is_directory_kind}
 use Rattle.path_walk.proofs.Kept.{is_err}
-use Rattle.call_parts.specs.Reaching.{checked}
+use Rattle.call_parts.specs.Telling.{checked}
 use Rattle.name_calls.proofs.ReplaceAsked.{there_some, there_body, other_replaced, directory_replaced}
 use Rattle.name_calls.proofs.replacing.check_replaced.Goals as goal
 
