@@ -12,6 +12,7 @@ use crate::opening::Opened;
 use crate::slots::{are_names_apart, read_good_slots};
 use fs_layout::{Geometry, Inode, Kind, Slot};
 use sector_disk::Disk;
+use std::alloc::{AllocError, Global};
 
 const SLOTS: u8 = 10;
 
@@ -24,6 +25,22 @@ pub(crate) struct Names {
     pub directories: Vec<u32>,
     /// The first directory in which a name stands twice.
     pub repeated: Option<u32>,
+}
+
+impl Names {
+    // No directory has named anything yet.
+    fn new(alloc: Global, inodes: usize) -> Result<Names, AllocError>
+        ensures { IfOk result (λ names. (p : Geometry) (m : SectorMap) → p.inodes ≡ inodes
+            → IsNaming p m 0 names.counts.items names.directories.items names.repeated) }
+    {
+        let counts = vec![in alloc; 0; inodes]?;
+        let directories = vec![in alloc; 0; inodes]?;
+        Ok(Names {
+            counts,
+            directories,
+            repeated: None,
+        })
+    }
 }
 
 // One more name of inode `ino`, in directory `dir_ino`.
@@ -95,6 +112,34 @@ fn add_directory<D: Disk>(
     Ok(true)
 }
 
+// Adds all directories.
+fn add_directories<D: Disk>(
+    disk: &mut D,
+    opened: &Opened,
+    inodes: &[Inode],
+    names: &mut Names,
+) -> Checked<()>
+    requires opened { BeginsWith (D.state disk.old) opened.now.geometry opened.now.area opened.now.commit }
+    requires table { AreInodes opened.now.geometry (meaning (D.state disk.old)) inodes.now }
+    requires before { ObeysBefore opened.now.geometry (meaning (D.state disk.old)) 10 }
+    requires none { IsNaming opened.now.geometry (meaning (D.state disk.old)) 0
+        names.old.counts.items names.old.directories.items names.old.repeated }
+    ensures each { OnOk result (ObeysEach opened.now.geometry (meaning (D.state disk.old)) Slots) }
+    ensures names { OnOk result (IsNaming opened.now.geometry (meaning (D.state disk.old)) opened.now.geometry.inodes
+        names.new.counts.items names.new.directories.items names.new.repeated) }
+    ensures passed { Passed (IsLeast opened.now.geometry Slots) (D.state disk.old) (D.state disk.new) result }
+{
+    for dir_ino in 0..inodes.len() as u32 {
+        if !add_directory(disk, opened, inodes, dir_ino, names)? {
+            return Err(CheckFault::Found(Finding {
+                rule: SLOTS,
+                at: dir_ino,
+            }));
+        }
+    }
+    Ok(())
+}
+
 /// What the slots of all directories name, where each is valid and its inode is in use and isn't the root. Each sector of a
 /// directory is read once.
 pub(crate) fn read_names<D: Disk>(disk: &mut D, opened: &Opened, inodes: &[Inode]) -> Checked<Names>
@@ -109,18 +154,7 @@ pub(crate) fn read_names<D: Disk>(disk: &mut D, opened: &Opened, inodes: &[Inode
         (λ d. IsLeastFailure opened.now.geometry (meaning (D.state disk.old)) NamesApart d)) }
     ensures passed { Passed (IsLeast opened.now.geometry Slots) (D.state disk.old) (D.state disk.new) result }
 {
-    let mut names = Names {
-        counts: vec![in opened.alloc; 0; opened.geometry.inodes as usize]?,
-        directories: vec![in opened.alloc; 0; opened.geometry.inodes as usize]?,
-        repeated: None,
-    };
-    for dir_ino in 0..inodes.len() as u32 {
-        if !add_directory(disk, opened, inodes, dir_ino, &mut names)? {
-            return Err(CheckFault::Found(Finding {
-                rule: SLOTS,
-                at: dir_ino,
-            }));
-        }
-    }
+    let mut names = Names::new(opened.alloc, opened.geometry.inodes as usize)?;
+    add_directories(disk, opened, inodes, &mut names)?;
     Ok(names)
 }

@@ -2,7 +2,7 @@
 //!
 //! Nothing trusts that these are all: a sector that is missed is one that the check can't read.
 
-ghost use Rattle.std.specs.Prelude.{◌≤◌};
+ghost use Rattle.std.specs.Prelude.{◌+◌, ◌≤◌};
 ghost use Rattle.fs_layout.specs.declared.inode.TheConstants.{POINTER_LEVELS};
 ghost use Rattle.fs_layout.specs.declared.header.TheConstants.{MAX_HEADER};
 
@@ -40,10 +40,7 @@ pub fn load<F: DiskFile + Drop>(
     let count = geometry.first_data.saturating_sub(geometry.inode_bitmap);
     let part = part.load(geometry.inode_bitmap, count)?;
     let (part, log) = load_log(part, geometry.header.min(MAX_HEADER))?;
-    let Used { tails, inodes } = used_inodes(alloc, &part, &log, geometry)?;
-    let part = load_named(alloc, part, &inodes)?;
-    let part = load_pointers(alloc, part, &log, &inodes)?;
-    load_blocks(part, &log, &inodes, tails)
+    load_used(alloc, part, &log, geometry)
 }
 
 fn read_geometry<F: DiskFile + Drop>(part: &PartFile<F>) -> Option<Geometry> {
@@ -108,32 +105,70 @@ fn is_short_file(inode: &Inode) -> bool {
     inode.kind == Kind::File && inode.acl == 0 && inode.indirect == [0; POINTER_LEVELS]
 }
 
-fn used_inodes<F: DiskFile + Drop>(
+// What inodes that are in use name and hold.
+fn load_used<F: DiskFile + Drop>(
     alloc: Global,
+    part: PartFile<F>,
+    log: &Log,
+    geometry: Geometry,
+) -> Result<PartFile<F>, FileFault> {
+    let mut used = Used {
+        tails: Vec::new(alloc),
+        inodes: Vec::new(alloc),
+    };
+    want_used(&mut used, &part, log, geometry)?;
+    load_wanted(alloc, part, log, &mut used)
+}
+
+// What these inodes name and hold.
+fn load_wanted<F: DiskFile + Drop>(
+    alloc: Global,
+    part: PartFile<F>,
+    log: &Log,
+    used: &mut Used,
+) -> Result<PartFile<F>, FileFault> {
+    let part = load_named(alloc, part, &used.inodes)?;
+    let part = load_pointers(alloc, part, log, &used.inodes)?;
+    want_blocks(&mut used.tails, &part, log, &used.inodes)?;
+    part.load_tails(&used.tails)
+}
+
+fn want_used<F: DiskFile + Drop>(
+    used: &mut Used,
     part: &PartFile<F>,
     log: &Log,
     geometry: Geometry,
-) -> Result<Used, AllocError> {
-    let mut tails = Vec::new(alloc);
-    let mut inodes = Vec::new(alloc);
+) -> Result<(), AllocError> {
     for s in geometry.table..geometry.first_data {
         let content = recovered(part, log, s);
         for i in 0..SECTOR_INODES {
-            let at = INODE_SIZE * i;
-            if content[at] == 0 {
-                continue;
-            }
-            let Ok(inode) = Inode::read_any(content, at) else {
-                continue;
-            };
-            if is_short_file(&inode) {
-                want_end(&mut tails, part, log, &inode)?;
-            } else {
-                inodes.push(inode)?;
-            }
+            want_inode(used, part, log, content, INODE_SIZE * i)?;
         }
     }
-    Ok(Used { tails, inodes })
+    Ok(())
+}
+
+// The inode whose bytes begin here, where it is good and in use.
+fn want_inode<F: DiskFile + Drop>(
+    used: &mut Used,
+    part: &PartFile<F>,
+    log: &Log,
+    content: &[u8; 512],
+    at: usize,
+) -> Result<(), AllocError>
+    requires { at + INODE_SIZE ≤ 512 }
+{
+    if content[at] == 0 {
+        return Ok(());
+    }
+    let Ok(inode) = Inode::read_any(content, at) else {
+        return Ok(());
+    };
+    if is_short_file(&inode) {
+        return want_end(&mut used.tails, part, log, &inode);
+    }
+    used.inodes.push(inode)?;
+    Ok(())
 }
 
 fn want(numbers: &mut Vec<u32>, s: u32) -> Result<(), AllocError> {
@@ -150,15 +185,20 @@ fn load_named<F: DiskFile + Drop>(
     inodes: &[Inode],
 ) -> Result<PartFile<F>, FileFault> {
     let mut numbers = Vec::new(alloc);
+    want_named(&mut numbers, inodes)?;
+    part.load_each(&numbers)
+}
+
+fn want_named(numbers: &mut Vec<u32>, inodes: &[Inode]) -> Result<(), AllocError> {
     for inode in inodes {
-        want(&mut numbers, inode.acl)?;
-        want(&mut numbers, inode.default_acl)?;
+        want(numbers, inode.acl)?;
+        want(numbers, inode.default_acl)?;
         for s in &inode.indirect {
-            want(&mut numbers, *s)?;
+            want(numbers, *s)?;
         }
     }
     numbers.sort()?;
-    part.load_each(&numbers)
+    Ok(())
 }
 
 // The sectors of pointers that others list, from the top.
@@ -171,25 +211,38 @@ fn load_pointers<F: DiskFile + Drop>(
     let mut part = part;
     let mut level = POINTER_LEVELS;
     while level > 1 {
-        let numbers = listed_numbers(alloc, &part, log, inodes, level)?;
-        part = part.load_each(&numbers)?;
+        part = load_listed(alloc, part, log, inodes, level)?;
         level -= 1;
     }
     Ok(part)
 }
 
-// What the sectors of pointers of a level list. There are no more of them than sectors, unless the disk is damaged.
-fn listed_numbers<F: DiskFile + Drop>(
+fn load_listed<F: DiskFile + Drop>(
     alloc: Global,
-    part: &PartFile<F>,
+    part: PartFile<F>,
     log: &Log,
     inodes: &[Inode],
     level: usize,
-) -> Result<Vec<u32>, AllocError>
+) -> Result<PartFile<F>, FileFault>
     requires lowest { 1 ≤ level }
     requires highest { level ≤ POINTER_LEVELS }
 {
     let mut numbers = Vec::new(alloc);
+    want_listed(&mut numbers, &part, log, inodes, level)?;
+    part.load_each(&numbers)
+}
+
+// What the sectors of pointers of a level list. There are no more of them than sectors, unless the disk is damaged.
+fn want_listed<F: DiskFile + Drop>(
+    numbers: &mut Vec<u32>,
+    part: &PartFile<F>,
+    log: &Log,
+    inodes: &[Inode],
+    level: usize,
+) -> Result<(), AllocError>
+    requires lowest { 1 ≤ level }
+    requires highest { level ≤ POINTER_LEVELS }
+{
     for inode in inodes {
         if numbers.len() > part.count() as usize {
             break;
@@ -197,16 +250,16 @@ fn listed_numbers<F: DiskFile + Drop>(
         for i in 0..inode.number_end(level) {
             let s = number_of(part, log, inode, level, i);
             if s != 0 {
-                want_listed(&mut numbers, recovered(part, log, s), inode, level - 1)?;
+                want_numbers(numbers, recovered(part, log, s), inode, level - 1)?;
             }
         }
     }
     numbers.sort()?;
-    Ok(numbers)
+    Ok(())
 }
 
 // The numbers of a level that stand in a sector of pointers with this content.
-fn want_listed(
+fn want_numbers(
     numbers: &mut Vec<u32>,
     content: &[u8; 512],
     inode: &Inode,
@@ -226,19 +279,18 @@ fn want_tail(tails: &mut Vec<Tail>, sector: u32, first: usize) -> Result<(), All
     Ok(())
 }
 
-// These tails, and of these inodes those of files, and of others all blocks. Of blocks there are no more than sectors, unless the disk is
+// Of files what stands past their sizes, and of other inodes all blocks. Of blocks there are no more than sectors, unless the disk is
 // damaged.
-fn load_blocks<F: DiskFile + Drop>(
-    part: PartFile<F>,
+fn want_blocks<F: DiskFile + Drop>(
+    tails: &mut Vec<Tail>,
+    part: &PartFile<F>,
     log: &Log,
     inodes: &[Inode],
-    tails: Vec<Tail>,
-) -> Result<PartFile<F>, FileFault> {
-    let mut tails = tails;
+) -> Result<(), AllocError> {
     let mut left = u64::from(part.count());
     for inode in inodes {
         if inode.kind == Kind::File {
-            want_end(&mut tails, &part, log, inode)?;
+            want_end(tails, part, log, inode)?;
             continue;
         }
         let end = inode.size.div_ceil(512).min(MAX_BLOCKS);
@@ -247,11 +299,11 @@ fn load_blocks<F: DiskFile + Drop>(
         }
         left -= end;
         for i in 0..end {
-            want_tail(&mut tails, number_of(&part, log, inode, 0, i), 0)?;
+            want_tail(tails, number_of(part, log, inode, 0, i), 0)?;
         }
     }
     tails.sort_by_key(|tail| tail.sector)?;
-    part.load_tails(&tails)
+    Ok(())
 }
 
 // What stands past a file's size in its last block, unless the block ends with it.

@@ -1,13 +1,13 @@
 //! The slots of one directory.
 
-ghost use Rattle.std.specs.Prelude.{◌≡◌, ◌≢◌, ◌≤◌, ◌<◌, ◌+◌, ◌/◌, ◌%◌, ℕ, length, get_or, OnOk, IfOk, IsTrue, ◌↔◌, MatchOption, All};
+ghost use Rattle.std.specs.Prelude.{◌≡◌, ◌≢◌, ◌≤◌, ◌<◌, ◌+◌, ◌/◌, ◌%◌, ℕ, length, get_or, OnOk, IfOk, IsTrue, ◌↔◌, MatchOption, All, vec_capacity};
 ghost use Rattle.std.specs.List.Sorted.{IsPermutation, IsSortedBy};
 ghost use Rattle.fs_layout.specs.declared.inode.TheConstants.{MAX_DIRECTORY_SIZE};
 ghost use Rattle.fs_layout.specs.declared.inode.Inode.{Inode as AnInode};
 ghost use Rattle.fs_layout.specs.Bytes.{SectorMap};
 ghost use Rattle.fs_layout.specs.Version.{block_slots};
 ghost use Rattle.fs_layout.specs.Images.{IsData, Owns};
-ghost use Rattle.fs_layout.specs.Directories.{NamedInode, HaveDistinctNames};
+ghost use Rattle.fs_layout.specs.Directories.{NamedInode, HaveDistinctNames, slot_count};
 ghost use Rattle.fs_check.specs.Owning.{AreAtHand};
 ghost use Rattle.fs_check.specs.Naming.{block_of_slot, AreValid, IsSlotIn, AreSlots, IsUsable, HasGoodSlots, is_below};
 ghost use Rattle.fs_check.specs.Checks.{meaning, BeginsWith, AreInodes, Passed, IsNone};
@@ -58,6 +58,37 @@ fn slot_in(version: Version, block: &[u8; 512], k: usize) -> Option<Slot>
     }
 }
 
+// Fills a list with the slots of a directory, of which there are so many. Not where one isn't valid.
+fn fill_slots<D: Disk>(
+    disk: &mut D,
+    opened: &Opened,
+    inode: &Inode,
+    count: usize,
+    slots: &mut Vec<Slot>,
+) -> Checked<bool>
+    requires opened { BeginsWith (D.state disk.old) opened.now.geometry opened.now.area opened.now.commit }
+    requires in_data { (s : ℕ) → Owns (meaning (D.state disk.old)) inode.now s → IsData opened.now.geometry s }
+    requires count { count ≡ slot_count opened.now.geometry.version inode.now }
+    requires none { length slots.old.items ≡ 0 }
+    requires room { count ≤ vec_capacity slots.old }
+    ensures test { IfOk result (λ b. IsTrue b ↔ AreValid opened.now.geometry.version (meaning (D.state disk.old)) inode.now) }
+    ensures slots { IfOk result (λ b. IsTrue b
+        → AreSlots opened.now.geometry.version (meaning (D.state disk.old)) inode.now slots.new.items) }
+    ensures passed { Passed IsNone (D.state disk.old) (D.state disk.new) result }
+{
+    let version = opened.geometry.version;
+    let mut pointers = Pointers::new();
+    let mut block = [0; 512];
+    for k in 0..count {
+        read_block_of(disk, opened, inode, &mut pointers, k, &mut block)?;
+        let Some(slot) = slot_in(version, &block, k) else {
+            return Ok(false);
+        };
+        slots.push_reserved(slot);
+    }
+    Ok(true)
+}
+
 // The slots of a directory, where each is valid.
 fn read_slots<D: Disk>(disk: &mut D, opened: &Opened, inode: &Inode) -> Checked<Option<Vec<Slot>>>
     requires opened { BeginsWith (D.state disk.old) opened.now.geometry opened.now.area opened.now.commit }
@@ -67,17 +98,10 @@ fn read_slots<D: Disk>(disk: &mut D, opened: &Opened, inode: &Inode) -> Checked<
         (λ slots. AreSlots opened.now.geometry.version (meaning (D.state disk.old)) inode.now slots.items)) }
     ensures passed { Passed IsNone (D.state disk.old) (D.state disk.new) result }
 {
-    let version = opened.geometry.version;
-    let count = inode.size as usize / version.slot_size();
-    let mut pointers = Pointers::new();
+    let count = inode.size as usize / opened.geometry.version.slot_size();
     let mut slots = Vec::with_capacity(opened.alloc, count)?;
-    let mut block = [0; 512];
-    for k in 0..count {
-        read_block_of(disk, opened, inode, &mut pointers, k, &mut block)?;
-        let Some(slot) = slot_in(version, &block, k) else {
-            return Ok(None);
-        };
-        slots.push_reserved(slot);
+    if !fill_slots(disk, opened, inode, count, &mut slots)? {
+        return Ok(None);
     }
     Ok(Some(slots))
 }

@@ -3,8 +3,9 @@ use Rattle.fs_layout.specs.declared.inode.Kind.TheVariants.{File}
 use Rattle.fs_layout.specs.Bytes.{SectorMap}
 use Rattle.fs_layout.specs.Images.{IsTrimmed, HasNoHole}
 use Rattle.fs_check.specs.Checks.{meaning}
-use Rattle.fs_check.proofs.Carrying.{meaning_same, owns_still}
+use Rattle.fs_check.proofs.Carrying.{meaning_same, owns_still, hand_back, hand_still, opened_still, read_error, same_error}
 use Rattle.fs_check.proofs.FitNumbers.{not_fit}
+use Rattle.sector_disk.proofs.Moments.{reads_joined}
 use Rattle.fs_check.proofs.contents.fit_numbers.Goals as goal
 
 pub returns-then-not-branch-clause-test : goal.returns-then-not-branch-clause-test
@@ -25,3 +26,31 @@ returns-clause-test g c =
       (λ t. record { trim = c.in_ok-is_trimmed.ensures.test.0 c.if-not-branch.false; whole = λ no_file. whole.0 t }),
       (λ fit. whole.1 (fit.whole other)),
     )
+
+pub returns-in_err-is_trimmed-clause-passed : goal.returns-in_err-is_trimmed-clause-passed
+returns-in_err-is_trimmed-clause-passed g c =
+    same_error (g.D.Disk.state c.args.disk.now) (g.D.Disk.state c.is_trimmed.new.disk) c.from_residual.result c.from_residual.ensures.1 c.in_err-is_trimmed.ensures.passed
+
+pub returns-then-not-branch-clause-passed : goal.returns-then-not-branch-clause-passed
+returns-then-not-branch-clause-passed g c = record { reads = c.in_ok-is_trimmed.ensures.passed.reads; reason = tt }
+
+pub returns-then-eq-clause-passed : goal.returns-then-eq-clause-passed
+returns-then-eq-clause-passed g c = record { reads = c.in_ok-is_trimmed.ensures.passed.reads; reason = tt }
+
+pub has_no_hole-requires-clause-opened : goal.has_no_hole-requires-clause-opened
+has_no_hole-requires-clause-opened g c = opened_still c.in_ok-is_trimmed.ensures.passed.reads c.requires.opened
+
+pub has_no_hole-requires-clause-at_hand : goal.has_no_hole-requires-clause-at_hand
+has_no_hole-requires-clause-at_hand g c = hand_still c.in_ok-is_trimmed.ensures.passed.reads c.is_trimmed.new.pointers c.in_ok-is_trimmed.ensures.at_hand
+
+pub returns-in_err-whole-clause-passed : goal.returns-in_err-whole-clause-passed
+returns-in_err-whole-clause-passed g c =
+    let left = c.from_residual-in_err-whole in
+    read_error (g.D.Disk.state c.args.disk.now) (g.D.Disk.state c.is_trimmed.new.disk) (g.D.Disk.state c.has_no_hole.new.disk) c.in_ok-is_trimmed.ensures.passed.reads left.result left.ensures.1
+    c.in_err-whole.ensures.passed
+
+pub returns-clause-at_hand : goal.returns-clause-at_hand
+returns-clause-at_hand g c = hand_back c.in_ok-is_trimmed.ensures.passed.reads c.has_no_hole.new.pointers c.in_ok-whole.ensures.at_hand
+
+pub returns-clause-passed : goal.returns-clause-passed
+returns-clause-passed g c = record { reads = reads_joined c.in_ok-is_trimmed.ensures.passed.reads c.in_ok-whole.ensures.passed.reads; reason = tt }

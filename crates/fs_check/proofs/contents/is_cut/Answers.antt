@@ -3,6 +3,8 @@ use Rattle.fs_model.specs.Nodes.{numbers_for}
 use Rattle.fs_check.specs.Checks.{meaning}
 use Rattle.fs_check.proofs.DataNumbers.{above_owned, level_owned, listed_own}
 use Rattle.fs_check.proofs.FitNumbers.{needed_level, to_cut, of_cut, own_not_cut, cut_without, cut_at_hole, last_lists}
+use Rattle.fs_check.proofs.Carrying.{same_error}
+use Rattle.sector_disk.proofs.Moments.{reads_nothing}
 use Rattle.fs_check.proofs.contents.is_cut.Goals as goal
 
 pub returns-then-not-are_none-clause-test : goal.returns-then-not-are_none-clause-test
@@ -65,3 +67,19 @@ returns-clause-test g c =
       (λ t. to_cut m v level first own above c.needed_numbers-first.ensures.is c.own_count-own.ensures c.needed_numbers-above.ensures.is (test.0 t)),
       (λ cut. test.1 (of_cut m v level first own above c.needed_numbers-first.ensures.is c.own_count-own.ensures c.needed_numbers-above.ensures.is cut)),
     )
+
+pub returns-then-not-are_none-clause-passed : goal.returns-then-not-are_none-clause-passed
+returns-then-not-are_none-clause-passed g c = record { reads = reads_nothing; reason = tt }
+
+pub returns-then-above-eq0-clause-passed : goal.returns-then-above-eq0-clause-passed
+returns-then-above-eq0-clause-passed g c = record { reads = reads_nothing; reason = tt }
+
+pub returns-in_err-find-clause-passed : goal.returns-in_err-find-clause-passed
+returns-in_err-find-clause-passed g c =
+    same_error (g.D.Disk.state c.args.disk.now) (g.D.Disk.state c.find.new.disk) c.from_residual.result c.from_residual.ensures.1 c.in_err-find.ensures.passed
+
+pub returns-then-branch-eq0-clause-passed : goal.returns-then-branch-eq0-clause-passed
+returns-then-branch-eq0-clause-passed g c = record { reads = c.in_ok-find.ensures.passed.reads; reason = tt }
+
+pub returns-clause-passed : goal.returns-clause-passed
+returns-clause-passed g c = record { reads = c.in_ok-find.ensures.passed.reads; reason = tt }

@@ -1,98 +1,18 @@
-use Rattle.std.proofs.Common.{◌≡◌, ◌+◌, arith, refl, subst, sym, ap, ◌∙◌, inl, inr}
-use Rattle.std.proofs.lemmas.Bool.{cases_lt}
-use Rattle.fs_layout.specs.declared.inode.Inode.{Inode}
-use Rattle.fs_layout.specs.declared.inode.Kind.TheVariants.{Free, Directory}
-use Rattle.fs_model.specs.Rules.{Obeys, Slots}
-use Rattle.sector_disk.proofs.Moments.{reads_joined}
+use Rattle.std.proofs.Common.{arith, refl}
 use Rattle.fs_check.specs.Checks.{meaning}
-use Rattle.fs_check.specs.Naming.{IsNaming}
-use Rattle.fs_check.proofs.Carrying.{meaning_same, opened_still, table_still, before_still, read_error}
-use Rattle.fs_check.proofs.Tables.{more_good}
-use Rattle.fs_check.proofs.Tests.{few_inodes, free_behind, refuses}
-use Rattle.fs_check.proofs.Tallies.{all_repeated, all_named, whole_naming}
+use Rattle.fs_check.proofs.Tallies.{all_repeated, all_named}
 use Rattle.fs_check.proofs.directories.read_names.Goals as goal
 
-pub add_directory-requires-clause-names : goal.add_directory-requires-clause-names
-add_directory-requires-clause-names g c =
-    subst (λ m. IsNaming c.args.opened.now.geometry m c.loop-dir_ino.dir_ino c.loop-dir_ino.names.counts.items c.loop-dir_ino.names.directories.items c.loop-dir_ino.names.repeated)
-    (sym (meaning_same c.loop-dir_ino.invariant.reads)) c.loop-dir_ino.invariant.naming
-
-pub loop-dir_ino-preserved : goal.loop-dir_ino-preserved
-loop-dir_ino-preserved g c =
-    let s0 = g.D.Disk.state c.args.disk.now in
-    let p = c.args.opened.now.geometry in
-    let d = c.loop-dir_ino.dir_ino in
-    let new = c.add_directory.new.names in
-    let same = meaning_same c.loop-dir_ino.invariant.reads in
-    let is = c.if-not-branch.false in
-    record {
-      reads = reads_joined c.loop-dir_ino.invariant.reads c.in_ok-add_directory.ensures.passed.reads;
-      good = more_good (Obeys p (meaning s0) Slots) d c.loop-dir_ino.invariant.good (subst (λ m. Obeys p m Slots d) same (c.in_ok-add_directory.ensures.test.0 is));
-      naming = subst (λ m. IsNaming p m (d + 1) new.counts.items new.directories.items new.repeated) same (c.in_ok-add_directory.ensures.names is);
-    }
-
-pub returns-then-not-branch-clause-passed : goal.returns-then-not-branch-clause-passed
-returns-then-not-branch-clause-passed g c =
-    let added = c.in_ok-add_directory.ensures in
-    record {
-      reads = reads_joined c.loop-dir_ino.invariant.reads added.passed.reads;
-      reason = (
-        refl,
-        record {
-          fails = λ h.
-              refuses (Obeys c.args.opened.now.geometry (meaning (g.D.Disk.state c.loop-dir_ino.disk)) Slots c.loop-dir_ino.dir_ino) c.in_ok-add_directory.field-0 c.if-not-branch.true added.test
-              (subst (λ m. Obeys c.args.opened.now.geometry m Slots c.loop-dir_ino.dir_ino) (sym (meaning_same c.loop-dir_ino.invariant.reads)) h);
-          least = c.loop-dir_ino.invariant.good;
-        },
-      );
-    }
-
-pub returns-clause-each : goal.returns-clause-each
-returns-clause-each g c = λ n lt is.
-    let m = meaning (g.D.Disk.state c.args.disk.now) in
-    elim (cases_lt n c.loop-dir_ino.dir_ino) [
-      | inl low ↦ c.loop-dir_ino.invariant.good n low lt is
-      | inr ge ↦
-          let past = c.loop-dir_ino-test.false in
-          let free = free_behind c.args.opened.now.geometry m c.args.inodes.now n c.requires.table (omega (arith, ge, past)) lt in
-          absurd (let e : Free ≡ Directory = sym (ap (λ (v : Inode). v.kind) free) ∙ is in cc)
-    ]
+pub add_directories-requires-clause-none : goal.add_directories-requires-clause-none
+add_directories-requires-clause-none g c = c.in_ok-names.ensures c.args.opened.now.geometry (meaning (g.D.Disk.state c.args.disk.now)) refl
 
 pub returns-clause-names : goal.returns-clause-names
 returns-clause-names g c =
     let p = c.args.opened.now.geometry in
-    let m = meaning (g.D.Disk.state c.args.disk.now) in
-    all_named p m p.inodes c.loop-dir_ino.names.counts.items c.loop-dir_ino.names.directories.items refl
-    (whole_naming p m c.args.inodes.now c.requires.table c.loop-dir_ino.dir_ino c.loop-dir_ino.names.counts.items c.loop-dir_ino.names.directories.items c.loop-dir_ino.names.repeated
-    c.loop-dir_ino-test.false (omega (arith, c.loop-dir_ino.auto.dir_ino-end, c.requires.table.len)) c.loop-dir_ino.invariant.naming).tally
+    let names = c.add_directories.new.names in
+    all_named p (meaning (g.D.Disk.state c.args.disk.now)) p.inodes names.counts.items names.directories.items refl c.in_ok-add_directories.ensures.names.tally
 
 pub returns-clause-repeated : goal.returns-clause-repeated
 returns-clause-repeated g c =
     let p = c.args.opened.now.geometry in
-    let m = meaning (g.D.Disk.state c.args.disk.now) in
-    all_repeated p m p.inodes c.loop-dir_ino.names.repeated (omega arith)
-    (whole_naming p m c.args.inodes.now c.requires.table c.loop-dir_ino.dir_ino c.loop-dir_ino.names.counts.items c.loop-dir_ino.names.directories.items c.loop-dir_ino.names.repeated
-    c.loop-dir_ino-test.false (omega (arith, c.loop-dir_ino.auto.dir_ino-end, c.requires.table.len)) c.loop-dir_ino.invariant.naming).repeated
-
-pub overflow_cast-dir_ino-end : goal.overflow_cast-dir_ino-end
-overflow_cast-dir_ino-end g c =
-    let few = few_inodes _ _ c.args.opened.now.geometry _ c.args.inodes.now c.requires.opened.geometry c.requires.table in
-    omega (arith, few)
-
-pub add_directory-requires-clause-opened : goal.add_directory-requires-clause-opened
-add_directory-requires-clause-opened g c = opened_still c.loop-dir_ino.invariant.reads c.requires.opened
-
-pub add_directory-requires-clause-table : goal.add_directory-requires-clause-table
-add_directory-requires-clause-table g c = table_still c.loop-dir_ino.invariant.reads c.requires.table
-
-pub add_directory-requires-clause-before : goal.add_directory-requires-clause-before
-add_directory-requires-clause-before g c = before_still c.loop-dir_ino.invariant.reads c.requires.before
-
-pub returns-in_err-add_directory-clause-passed : goal.returns-in_err-add_directory-clause-passed
-returns-in_err-add_directory-clause-passed g c =
-    let left = c.from_residual-in_err-add_directory in
-    read_error (g.D.Disk.state c.args.disk.now) (g.D.Disk.state c.loop-dir_ino.disk) (g.D.Disk.state c.add_directory.new.disk) c.loop-dir_ino.invariant.reads left.result left.ensures.1
-    c.in_err-add_directory.ensures.passed
-
-pub returns-clause-passed : goal.returns-clause-passed
-returns-clause-passed g c = record { reads = c.loop-dir_ino.invariant.reads; reason = tt }
+    all_repeated p (meaning (g.D.Disk.state c.args.disk.now)) p.inodes c.add_directories.new.names.repeated (omega arith) c.in_ok-add_directories.ensures.names.repeated

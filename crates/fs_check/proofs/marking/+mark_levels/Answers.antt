@@ -4,10 +4,12 @@ use Rattle.fs_layout.specs.Bytes.{SectorMap}
 use Rattle.fs_layout.specs.Images.{level_end}
 use Rattle.fs_check.specs.Checks.{meaning}
 use Rattle.fs_check.specs.Owning.{HasAboveInData, HasLevelInData, first_part, owned_part, IsMarked}
-use Rattle.fs_check.proofs.Carrying.{meaning_same, above_still, hand_still, opened_still}
+use Rattle.fs_check.proofs.Carrying.{meaning_same, above_still, hand_still, opened_still, same_error, read_error, hand_back}
 use Rattle.fs_check.proofs.DataNumbers.{not_all, lowest_level, levels_above, levels_below}
 use Rattle.fs_check.proofs.MarkedParts.{blocks_marked, step_marked}
 use Rattle.fs_check.proofs.OwnedParts.{part_below}
+use Rattle.sector_disk.proofs.Moments.{reads_joined}
+use Rattle.std.proofs.lemmas.Bool.{false≢true}
 use Rattle.fs_check.proofs.marking.+mark_levels.Goals as goal
 
 pub returns-then-not-branch-clause-test : goal.returns-then-not-branch-clause-test
@@ -70,3 +72,34 @@ returns-clause-marked g t c = λ good n is x.
     c.in_ok-mark_level.ensures.passed.reads is (c.in_ok-marked.ensures.marked good n)
     (subst (λ k. IsMarked (owned_part p (meaning s0)) n k p.sectors owned twice) (part_below level c.if-level-eq0.false)
     (c.in_ok-mark_level.ensures.marked c.if-not-branch.false n is x))
+
+pub returns-in_err-mark_level-clause-passed : goal.returns-in_err-mark_level-clause-passed
+returns-in_err-mark_level-clause-passed g t c =
+    same_error (g.D.Disk.state c.args.disk.now) (g.D.Disk.state c.mark_level.new.disk) c.from_residual.result c.from_residual.ensures.1 c.in_err-mark_level.ensures.passed
+
+pub returns-then-not-branch-clause-at_hand : goal.returns-then-not-branch-clause-at_hand
+returns-then-not-branch-clause-at_hand g t c = c.in_ok-mark_level.ensures.at_hand
+
+pub returns-then-not-branch-clause-passed : goal.returns-then-not-branch-clause-passed
+returns-then-not-branch-clause-passed g t c = record { reads = c.in_ok-mark_level.ensures.passed.reads; reason = tt }
+
+pub returns-then-level-eq0-clause-at_hand : goal.returns-then-level-eq0-clause-at_hand
+returns-then-level-eq0-clause-at_hand g t c = c.in_ok-mark_level.ensures.at_hand
+
+pub returns-then-level-eq0-clause-passed : goal.returns-then-level-eq0-clause-passed
+returns-then-level-eq0-clause-passed g t c = record { reads = c.in_ok-mark_level.ensures.passed.reads; reason = tt }
+
+pub returns-then-not-branch-clause-marked : goal.returns-then-not-branch-clause-marked
+returns-then-not-branch-clause-marked g t c = λ f. absurd (false≢true f)
+
+pub returns-in_err-marked-clause-passed : goal.returns-in_err-marked-clause-passed
+returns-in_err-marked-clause-passed g t c =
+    let left = c.from_residual-in_err-marked in
+    read_error (g.D.Disk.state c.args.disk.now) (g.D.Disk.state c.mark_level.new.disk) (g.D.Disk.state c.mark_levels.new.disk) c.in_ok-mark_level.ensures.passed.reads left.result left.ensures.1
+    c.in_err-marked.ensures.passed
+
+pub returns-clause-at_hand : goal.returns-clause-at_hand
+returns-clause-at_hand g t c = hand_back c.in_ok-mark_level.ensures.passed.reads c.mark_levels.new.pointers c.in_ok-marked.ensures.at_hand
+
+pub returns-clause-passed : goal.returns-clause-passed
+returns-clause-passed g t c = record { reads = reads_joined c.in_ok-mark_level.ensures.passed.reads c.in_ok-marked.ensures.passed.reads; reason = tt }

@@ -1,9 +1,11 @@
 use Rattle.std.proofs.Common.{inl, inr}
-use Rattle.std.proofs.lemmas.Bool.{cases_lt}
+use Rattle.std.proofs.lemmas.Bool.{cases_lt, false≢true}
 use Rattle.fs_check.specs.Checks.{meaning}
 use Rattle.fs_check.specs.Owning.{HasAclsInData}
 use Rattle.fs_check.proofs.DataNumbers.{acls_owned, level_owned, all_owned, above_top, top_few, not_owned}
 use Rattle.fs_check.proofs.MarkedParts.{levels_skipped}
+use Rattle.fs_check.proofs.Carrying.{same_error}
+use Rattle.sector_disk.proofs.Moments.{reads_nothing}
 use Rattle.fs_check.proofs.marking.mark_inode.Goals as goal
 
 pub returns-then-not-mark_acls-clause-test : goal.returns-then-not-mark_acls-clause-test
@@ -44,3 +46,16 @@ returns-clause-marked g c = λ t n is x.
     (levels_skipped c.args.opened.now.geometry m n c.args.inode.now is c.mark_acls.new.owned c.mark_acls.new.twice c.top_level-top.result
     c.top_level-top.ensures.either (λ level gt le i. c.top_level-top.ensures.none level gt le m i)
     (c.mark_acls.ensures.marked c.if-not-mark_acls.false m n is x))
+
+pub returns-then-not-mark_acls-clause-passed : goal.returns-then-not-mark_acls-clause-passed
+returns-then-not-mark_acls-clause-passed g c = record { reads = reads_nothing; reason = tt }
+
+pub returns-then-not-mark_acls-clause-marked : goal.returns-then-not-mark_acls-clause-marked
+returns-then-not-mark_acls-clause-marked g c = λ f. absurd (false≢true f)
+
+pub returns-in_err-marked-clause-passed : goal.returns-in_err-marked-clause-passed
+returns-in_err-marked-clause-passed g c =
+    same_error (g.D.Disk.state c.args.disk.now) (g.D.Disk.state c.mark_levels.new.disk) c.from_residual.result c.from_residual.ensures.1 c.in_err-marked.ensures.passed
+
+pub returns-clause-passed : goal.returns-clause-passed
+returns-clause-passed g c = record { reads = c.in_ok-marked.ensures.passed.reads; reason = tt }

@@ -8,6 +8,7 @@ use Rattle.fs_check.proofs.Carrying.{hand_back, hand_still, above_still, level_s
 use Rattle.fs_check.proofs.DataNumbers.{in_data_joined, level_in_data, listed_own, none_found, none_in_data, not_among, sector_lists}
 use Rattle.fs_check.proofs.MarkedParts.{sector_skipped, rest_skipped}
 use Rattle.fs_check.proofs.OwnedParts.{end_few, end_listed, has_level}
+use Rattle.std.proofs.lemmas.Bool.{false≢true}
 use Rattle.fs_check.proofs.marking.mark_level.Goals as goal
 
 pub returns-then-not-mark_listed-clause-test : goal.returns-then-not-mark_listed-clause-test
@@ -190,3 +191,15 @@ overflow_mul-listed-in-loop-j g c = omega (arith, small_end c.args.level c.own_c
 
 pub overflow_add-listed-in-loop-j-2 : goal.overflow_add-listed-in-loop-j-2
 overflow_add-listed-in-loop-j-2 g c = omega (arith, small_end c.args.level c.own_count-own.result c.loop-j.j _ c.requires.level c.own_count-own.ensures c.loop-j-test.true c.number_end-j-end.ensures.most)
+
+pub returns-then-not-mark_listed-clause-passed : goal.returns-then-not-mark_listed-clause-passed
+returns-then-not-mark_listed-clause-passed g c = record { reads = reads_nothing; reason = tt }
+
+pub returns-then-not-mark_listed-clause-marked : goal.returns-then-not-mark_listed-clause-marked
+returns-then-not-mark_listed-clause-marked g c = λ f. absurd (false≢true f)
+
+pub returns-then-not-mark_listed-2-clause-marked : goal.returns-then-not-mark_listed-2-clause-marked
+returns-then-not-mark_listed-2-clause-marked g c = λ f. absurd (false≢true f)
+
+pub returns-clause-at_hand : goal.returns-clause-at_hand
+returns-clause-at_hand g c = c.loop-j.invariant.at_hand

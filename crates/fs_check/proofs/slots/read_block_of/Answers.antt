@@ -1,6 +1,8 @@
 use Rattle.std.proofs.Common.{◌/◌, arith}
 use Rattle.fs_check.specs.Checks.{meaning}
 use Rattle.fs_check.proofs.DataNumbers.{above_owned, level_below, level_owned}
+use Rattle.fs_check.proofs.Carrying.{opened_still, read_error, same_error}
+use Rattle.sector_disk.proofs.Moments.{reads_joined}
 use Rattle.fs_check.proofs.slots.read_block_of.Goals as goal
 
 pub number-requires-clause-above : goal.number-requires-clause-above
@@ -16,3 +18,22 @@ read_recovered-requires-clause-on_disk g c =
     c.in_ok-s.ensures.number in
     let size = c.in_ok-s.ensures.passed.reads.narrowed.size in
     omega (arith, below, size)
+
+pub read_recovered-requires-clause-opened : goal.read_recovered-requires-clause-opened
+read_recovered-requires-clause-opened g c = opened_still c.in_ok-s.ensures.passed.reads c.requires.opened
+
+pub returns-in_err-s-clause-passed : goal.returns-in_err-s-clause-passed
+returns-in_err-s-clause-passed g c =
+    same_error (g.D.Disk.state c.args.disk.now) (g.D.Disk.state c.number.new.disk) c.from_residual.result c.from_residual.ensures.1 c.in_err-s.ensures.passed
+
+pub returns-in_err-read_recovered-clause-passed : goal.returns-in_err-read_recovered-clause-passed
+returns-in_err-read_recovered-clause-passed g c =
+    let left = c.from_residual-in_err-read_recovered in
+    read_error (g.D.Disk.state c.args.disk.now) (g.D.Disk.state c.number.new.disk) (g.D.Disk.state c.read_recovered.new.disk) c.in_ok-s.ensures.passed.reads left.result left.ensures.1
+    c.in_err-read_recovered.ensures.passed
+
+pub returns-clause-at_hand : goal.returns-clause-at_hand
+returns-clause-at_hand g c = c.in_ok-s.ensures.at_hand
+
+pub returns-clause-passed : goal.returns-clause-passed
+returns-clause-passed g c = record { reads = reads_joined c.in_ok-s.ensures.passed.reads c.in_ok-read_recovered.ensures.passed.reads; reason = tt }

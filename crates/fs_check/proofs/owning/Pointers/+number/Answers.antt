@@ -4,8 +4,9 @@ use Rattle.fs_layout.specs.Images.{holder, number_on, own_count}
 use Rattle.fs_layout.proofs.Pointers.{no_level}
 use Rattle.fs_check.specs.Checks.{meaning}
 use Rattle.fs_check.specs.Owning.{HasAboveInData}
-use Rattle.fs_check.proofs.Carrying.{content_back, hand_back, hand_still, opened_still}
+use Rattle.fs_check.proofs.Carrying.{content_back, hand_back, hand_still, opened_still, read_error, same_error}
 use Rattle.fs_check.proofs.DataNumbers.{has_above, level_below, none_held}
+use Rattle.sector_disk.proofs.Moments.{reads_joined}
 use Rattle.fs_check.proofs.owning.Pointers.+number.Goals as goal
 
 pub returns-then-i-own-clause-number : goal.returns-then-i-own-clause-number
@@ -74,3 +75,16 @@ returns-clause-number g t c =
 
 pub returns-clause-at_hand : goal.returns-clause-at_hand
 returns-clause-at_hand g t c = hand_back c.in_ok-s.ensures.passed.reads c.load.new.self c.in_ok-load.ensures.at_hand
+
+pub returns-in_err-s-clause-passed : goal.returns-in_err-s-clause-passed
+returns-in_err-s-clause-passed g t c =
+    same_error (g.D.Disk.state c.args.disk.now) (g.D.Disk.state c.number-2.new.disk) c.from_residual.result c.from_residual.ensures.1 c.in_err-s.ensures.passed
+
+pub returns-in_err-load-clause-passed : goal.returns-in_err-load-clause-passed
+returns-in_err-load-clause-passed g t c =
+    let left = c.from_residual-in_err-load in
+    read_error (g.D.Disk.state c.args.disk.now) (g.D.Disk.state c.number-2.new.disk) (g.D.Disk.state c.load.new.disk) c.in_ok-s.ensures.passed.reads left.result left.ensures.1
+    c.in_err-load.ensures.passed
+
+pub returns-clause-passed : goal.returns-clause-passed
+returns-clause-passed g t c = record { reads = reads_joined c.in_ok-s.ensures.passed.reads c.in_ok-load.ensures.passed.reads; reason = tt }

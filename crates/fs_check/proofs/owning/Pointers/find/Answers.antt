@@ -1,7 +1,8 @@
 use Rattle.std.proofs.Common.{arith}
 use Rattle.fs_check.specs.Checks.{meaning}
-use Rattle.fs_check.proofs.Carrying.{content_back, hand_back, hand_still, opened_still}
+use Rattle.fs_check.proofs.Carrying.{content_back, hand_back, hand_still, opened_still, read_error, same_error}
 use Rattle.fs_check.proofs.DataNumbers.{level_below}
+use Rattle.sector_disk.proofs.Moments.{reads_joined}
 use Rattle.fs_check.proofs.owning.Pointers.find.Goals as goal
 
 pub load-requires-clause-opened : goal.load-requires-clause-opened
@@ -23,3 +24,16 @@ returns-clause-content g c = λ some. content_back c.in_ok-s.ensures.passed.read
 
 pub returns-clause-at_hand : goal.returns-clause-at_hand
 returns-clause-at_hand g c = hand_back c.in_ok-s.ensures.passed.reads c.load.new.self c.in_ok-load.ensures.at_hand
+
+pub returns-in_err-s-clause-passed : goal.returns-in_err-s-clause-passed
+returns-in_err-s-clause-passed g c =
+    same_error (g.D.Disk.state c.args.disk.now) (g.D.Disk.state c.number.new.disk) c.from_residual.result c.from_residual.ensures.1 c.in_err-s.ensures.passed
+
+pub returns-in_err-load-clause-passed : goal.returns-in_err-load-clause-passed
+returns-in_err-load-clause-passed g c =
+    let left = c.from_residual-in_err-load in
+    read_error (g.D.Disk.state c.args.disk.now) (g.D.Disk.state c.number.new.disk) (g.D.Disk.state c.load.new.disk) c.in_ok-s.ensures.passed.reads left.result left.ensures.1
+    c.in_err-load.ensures.passed
+
+pub returns-clause-passed : goal.returns-clause-passed
+returns-clause-passed g c = record { reads = reads_joined c.in_ok-s.ensures.passed.reads c.in_ok-load.ensures.passed.reads; reason = tt }

@@ -3,7 +3,7 @@ use Rattle.fs_model.specs.Rules.{Obeys, Slots}
 use Rattle.sector_disk.specs.Disk.{OnlyReads}
 use Rattle.fs_check.specs.Checks.{meaning}
 use Rattle.fs_check.specs.Naming.{IsNaming}
-use Rattle.fs_check.proofs.directories.read_names.Given as goal
+use Rattle.fs_check.proofs.directories.add_directories.Given as goal
 
 abbrev pub invariant-loop-dir_ino : goal.invariant-loop-dir_ino
 invariant-loop-dir_ino g l = record {

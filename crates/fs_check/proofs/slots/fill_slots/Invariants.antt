@@ -6,7 +6,7 @@ use Rattle.sector_disk.specs.Disk.{OnlyReads}
 use Rattle.fs_check.specs.Checks.{meaning}
 use Rattle.fs_check.specs.Naming.{block_of_slot}
 use Rattle.fs_check.specs.Owning.{AreAtHand}
-use Rattle.fs_check.proofs.slots.read_slots.Given as goal
+use Rattle.fs_check.proofs.slots.fill_slots.Given as goal
 
 abbrev pub invariant-loop-k : goal.invariant-loop-k
 invariant-loop-k g l = record {
@@ -15,7 +15,7 @@ invariant-loop-k g l = record {
   block : l.k % block_slots l.opened.geometry.version ≢ 0
       → l.block ≡ block_of_slot l.opened.geometry.version (meaning (g.D.Disk.state l.fn.disk)) l.inode l.k;
   len : length l.slots.items ≡ l.k;
-  room : vec_capacity l.slots ≡ vec_capacity l.initial.slots;
+  room : vec_capacity l.slots ≡ vec_capacity l.fn.slots;
   valid : (j : ℕ) → j < l.k → slot_of l.opened.geometry.version (stored_slot l.opened.geometry.version (meaning (g.D.Disk.state l.fn.disk)) l.inode j)
       ≡ Ok (slot_at l.opened.geometry.version (meaning (g.D.Disk.state l.fn.disk)) l.inode j);
   each : (d : NamedInode) (j : ℕ) → j < l.k
