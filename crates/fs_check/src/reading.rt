@@ -1,12 +1,12 @@
 //! Sectors as recovery would leave them, read in a check.
 
 ghost use Rattle.std.specs.Prelude.{◌≡◌, ◌<◌, IfSome, IsTrue, OnOk};
-ghost use Rattle.sector_disk.specs.Disk.{EndsInZeros};
+ghost use Rattle.sector_disk.specs.Disk.{EndsInZeros, sector};
 ghost use Rattle.fs_check.specs.Checks.{meaning, BeginsWith, Passed, IsNone};
 
 use crate::faults::Checked;
 use crate::opening::Opened;
-use crate::recovering::{ends_in_meaning, find_meaning, read_meaning};
+use crate::recovering::{content_of, read_meaning};
 use sector_disk::Disk;
 
 /// Reads a sector as recovery would leave it.
@@ -25,6 +25,16 @@ pub(crate) fn read_recovered<D: Disk>(
     Ok(())
 }
 
+// The sector that has what recovery would leave in sector n.
+fn place_of<D: Disk>(_disk: &D, opened: &Opened, n: u32) -> u32
+    requires opened { BeginsWith (D.state _disk.now) opened.now.geometry opened.now.area opened.now.commit }
+    requires on_disk { n < (D.state _disk.now).size }
+    ensures on_disk { result < (D.state _disk.now).size }
+    ensures content { meaning (D.state _disk.now) n ≡ sector (D.state _disk.now).seen result }
+{
+    content_of(opened.geometry.header, opened.area, &opened.commit, n)
+}
+
 /// A sector as recovery would leave it, where it stands in memory. A disk needn't have any there.
 pub(crate) fn find_recovered<'a, D: Disk>(
     disk: &'a D,
@@ -35,7 +45,7 @@ pub(crate) fn find_recovered<'a, D: Disk>(
     requires on_disk { n < (D.state disk.now).size }
     ensures { IfSome result (λ content. content.now ≡ meaning (D.state disk.now) n) }
 {
-    find_meaning(disk, opened.geometry, opened.area, &opened.commit, n)
+    disk.find(place_of(disk, opened, n))
 }
 
 /// Whether it is known without a read that a sector is zeros from byte `first` on as recovery would leave it. A disk needn't know
@@ -45,5 +55,5 @@ pub(crate) fn is_zero_past<D: Disk>(disk: &D, opened: &Opened, n: u32, first: us
     requires on_disk { n < (D.state disk.now).size }
     ensures { IsTrue result → EndsInZeros first (meaning (D.state disk.now) n) }
 {
-    ends_in_meaning(disk, opened.geometry, opened.area, &opened.commit, n, first)
+    disk.ends_in_zeros(place_of(disk, opened, n), first)
 }

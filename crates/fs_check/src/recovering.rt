@@ -1,6 +1,6 @@
 //! What a superblock says, and sectors as recovery would leave them: for all that read an image and change nothing.
 
-ghost use Rattle.std.specs.Prelude.{◌≡◌, ◌≢◌, ◌≤◌, ◌<◌, ◌^◌, ℕ, length, get_or, IfSome, IfNone, IfOk, IsTrue, OnOk, MatchOption};
+ghost use Rattle.std.specs.Prelude.{◌≡◌, ◌≢◌, ◌≤◌, ◌<◌, ◌^◌, ℕ, length, get_or, IfSome, IfNone, IfOk, OnOk, MatchOption};
 ghost use Rattle.fs_layout.specs.Bytes.{SectorMap};
 ghost use Rattle.fs_layout.specs.Commit.{AreTargets, IsCommit, named_area};
 ghost use Rattle.fs_layout.specs.Header.{header_of};
@@ -8,7 +8,7 @@ ghost use Rattle.fs_layout.specs.declared.header.TheConstants.{MAX_HEADER};
 ghost use Rattle.fs_layout.specs.Recovered.{recovered};
 ghost use Rattle.fs_model.specs.Rules.{IsGeometryOf, HasGeometry};
 ghost use Rattle.redo_journal.specs.Meaning.{HasValidCommit};
-ghost use Rattle.sector_disk.specs.Disk.{EndsInZeros, OnlyReads, HasCause, sector};
+ghost use Rattle.sector_disk.specs.Disk.{OnlyReads, HasCause, sector};
 ghost use Rattle.fs_check.specs.Checks.{meaning, BeginsWith};
 
 use fs_layout::{Commit, Geometry, Super, area_start};
@@ -88,35 +88,4 @@ pub fn read_meaning<D: Disk>(
 {
     disk.read(content_of(geometry.header, area, commit, n), to)?;
     Ok(())
-}
-
-/// A sector as recovery would leave it, where it stands in memory, as [`read_meaning`] reads it.
-pub(crate) fn find_meaning<'a, D: Disk>(
-    disk: &'a D,
-    geometry: Geometry,
-    area: u32,
-    commit: &Commit,
-    n: u32,
-) -> Option<&'a [u8; 512]>
-    requires begins { BeginsWith (D.state disk.now) geometry area commit.now }
-    requires on_disk { n < (D.state disk.now).size }
-    ensures { IfSome result (λ content. content.now ≡ meaning (D.state disk.now) n) }
-{
-    disk.find(content_of(geometry.header, area, commit, n))
-}
-
-/// Whether it is known without a read that a sector is zeros from byte `first` on as recovery would leave it.
-pub(crate) fn ends_in_meaning<D: Disk>(
-    disk: &D,
-    geometry: Geometry,
-    area: u32,
-    commit: &Commit,
-    n: u32,
-    first: usize,
-) -> bool
-    requires begins { BeginsWith (D.state disk.now) geometry area commit.now }
-    requires on_disk { n < (D.state disk.now).size }
-    ensures { IsTrue result → EndsInZeros first (meaning (D.state disk.now) n) }
-{
-    disk.ends_in_zeros(content_of(geometry.header, area, commit, n), first)
 }

@@ -1,6 +1,6 @@
 use Rattle.std.proofs.Common.{arith, refl, rules, subst, ◌∙◌}
 use Rattle.std.proofs.lemmas.Bool.{false≢true}
-use Rattle.std.specs.Prelude.{◌≡◌, ◌/◌, ◌<◌, Ok}
+use Rattle.std.specs.Prelude.{◌≡◌, ◌<◌, Ok}
 use Rattle.sector_disk.proofs.Moments.{reads_joined}
 use Rattle.fs_layout.specs.Directories.{slot_count, slot_at, slot_of, stored_slot}
 use Rattle.fs_check.specs.Checks.{meaning}
