@@ -1,9 +1,10 @@
-use Rattle.std.proofs.Common.{refl}
+use Rattle.std.proofs.Common.{refl, subst, sym}
 use Rattle.std.proofs.lemmas.Result.{err_from_is_err_and}
 use Rattle.sector_disk.proofs.Moments.{reads_joined}
 use Rattle.fs_model.specs.Rules.{InData, OwnedOnce, BlockBits}
-use Rattle.fs_check.proofs.Carrying.{next_before, first_error, rule_error}
+use Rattle.fs_check.proofs.Carrying.{next_before, first_error, rule_error, meaning_same, opened_still}
 use Rattle.fs_check.proofs.Failures.{found_error, both_before}
+use Rattle.fs_check.specs.Checks.{IsOwnerMap}
 use Rattle.fs_check.proofs.checking.check_owners.Goals as goal
 
 pub returns-in_err-owners-clause-passed : goal.returns-in_err-owners-clause-passed
@@ -39,3 +40,8 @@ returns-clause-before g c =
     next_before s0 s1 BlockBits 7 refl read.passed.reads
     (both_before s0 s1 InData OwnedOnce 5 refl refl c.requires.opened c.requires.before read.passed.reads read.each c.in_ok-owners.owners.twice read.twice
     c.in_ok-found_at.ensures) c.in_ok-block_bits.ensures.each
+
+pub block_bits-requires : goal.block_bits-requires
+block_bits-requires g c =
+    let reads = c.in_ok-owners.ensures.passed.reads in
+    record { opened = opened_still reads c.requires.opened; owners = subst (λ m. IsOwnerMap c.args.opened.now.geometry m c.in_ok-owners.owners.owned) (sym (meaning_same reads)) c.in_ok-owners.ensures.owners }

@@ -2,7 +2,7 @@ use Rattle.std.proofs.Common.{IsTrue, ◌↔◌, false, arith, refl, subst, inl,
 use Rattle.std.proofs.lemmas.Bool.{cases_lt}
 use Rattle.fs_layout.specs.Bytes.{SectorMap}
 use Rattle.fs_layout.specs.Images.{IsTrimmed}
-use Rattle.sector_disk.proofs.Moments.{reads_joined}
+use Rattle.sector_disk.proofs.Moments.{reads_joined, reads_nothing}
 use Rattle.fs_check.specs.Checks.{meaning}
 use Rattle.fs_check.specs.LastBlocks.{IsCut}
 use Rattle.fs_check.proofs.Carrying.{meaning_same, hand_back, hand_still, opened_still, owns_still, read_error}
@@ -66,3 +66,9 @@ returns-then-not-branch-clause-passed g c = record { reads = reads_joined c.loop
 
 pub returns-clause-passed : goal.returns-clause-passed
 returns-clause-passed g c = record { reads = c.loop-level.invariant.reads; reason = tt }
+
+pub loop-level-init : goal.loop-level-init
+loop-level-init g c = record { reads = reads_nothing; at_hand = c.requires.at_hand; cut = λ n lt. absurd (omega (arith, lt)) }
+
+pub returns-then-not-branch-clause-at_hand : goal.returns-then-not-branch-clause-at_hand
+returns-then-not-branch-clause-at_hand g c = hand_back c.loop-level.invariant.reads c.is_cut.new.pointers c.in_ok-is_cut.ensures.at_hand

@@ -6,7 +6,7 @@ use Rattle.fs_model.specs.Rules.{Inodes, InData, IsLaidOut, LaidOut}
 use Rattle.sector_disk.proofs.Moments.{reads_nothing}
 use Rattle.fs_check.specs.Checks.{meaning}
 use Rattle.fs_check.specs.LastBlocks.{HasSize}
-use Rattle.fs_check.proofs.Carrying.{meaning_same, hand_back}
+use Rattle.fs_check.proofs.Carrying.{meaning_same, hand_back, hand_still, opened_still, read_error}
 use Rattle.fs_check.proofs.FreeInodes.{free_is_laid_out}
 use Rattle.fs_check.proofs.Tests.{within, few_inodes, inode_here, blank, all_tried, next_tried, fails_here}
 use Rattle.fs_check.proofs.Sizes.{good_size}
@@ -60,3 +60,17 @@ pub overflow_cast-ino-end : goal.overflow_cast-ino-end
 overflow_cast-ino-end g c =
     let few = few_inodes _ _ c.args.opened.now.geometry _ c.args.inodes.now c.requires.opened.geometry c.requires.table in
     omega (arith, few)
+
+pub is_laid_out-requires-clause-opened : goal.is_laid_out-requires-clause-opened
+is_laid_out-requires-clause-opened g c = opened_still c.loop-ino.invariant.tried.reads c.requires.opened
+
+pub is_laid_out-requires-clause-at_hand : goal.is_laid_out-requires-clause-at_hand
+is_laid_out-requires-clause-at_hand g c = hand_still c.loop-ino.invariant.tried.reads c.loop-ino.pointers c.loop-ino.invariant.at_hand
+
+pub returns-in_err-is_laid_out-clause-passed : goal.returns-in_err-is_laid_out-clause-passed
+returns-in_err-is_laid_out-clause-passed g c =
+    read_error (g.D.Disk.state c.args.disk.now) (g.D.Disk.state c.loop-ino.disk) (g.D.Disk.state c.is_laid_out.new.disk) c.loop-ino.invariant.tried.reads c.from_residual.result
+    c.from_residual.ensures.1 c.in_err-is_laid_out.ensures.passed
+
+pub returns-clause-passed : goal.returns-clause-passed
+returns-clause-passed g c = record { reads = c.loop-ino.invariant.tried.reads; reason = tt }

@@ -5,7 +5,7 @@ use Rattle.fs_model.specs.Rules.{IsInData}
 use Rattle.sector_disk.proofs.Moments.{reads_joined, reads_nothing}
 use Rattle.fs_check.specs.Checks.{meaning}
 use Rattle.fs_check.specs.Owning.{OwnsData}
-use Rattle.fs_check.proofs.Carrying.{hand_back}
+use Rattle.fs_check.proofs.Carrying.{hand_back, hand_still, opened_still, read_error}
 use Rattle.fs_check.proofs.FreeInodes.{free_owns_nothing}
 use Rattle.fs_check.proofs.MarkedParts.{step_marked, all_marked}
 use Rattle.fs_check.proofs.Tables.{more_good}
@@ -81,3 +81,21 @@ pub overflow_cast-ino-end : goal.overflow_cast-ino-end
 overflow_cast-ino-end g c =
     let few = few_inodes _ _ c.args.opened.now.geometry _ c.args.inodes.now c.requires.opened.geometry c.requires.table in
     omega (arith, few)
+
+pub mark_inode-requires : goal.mark_inode-requires
+mark_inode-requires g c =
+    let so_far = c.loop-ino.invariant in
+    record {
+      opened = opened_still so_far.reads c.requires.opened;
+      at_hand = hand_still so_far.reads c.loop-ino.pointers so_far.at_hand;
+      owned = so_far.marked.owned_len;
+      twice = so_far.marked.twice_len;
+    }
+
+pub returns-in_err-mark_inode-clause-passed : goal.returns-in_err-mark_inode-clause-passed
+returns-in_err-mark_inode-clause-passed g c =
+    read_error (g.D.Disk.state c.args.disk.now) (g.D.Disk.state c.loop-ino.disk) (g.D.Disk.state c.mark_inode.new.disk) c.loop-ino.invariant.reads c.from_residual.result c.from_residual.ensures.1
+    c.in_err-mark_inode.ensures.passed
+
+pub returns-clause-passed : goal.returns-clause-passed
+returns-clause-passed g c = record { reads = c.loop-ino.invariant.reads; reason = tt }
