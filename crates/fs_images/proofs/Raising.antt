@@ -2,9 +2,9 @@
 use Rattle.std.proofs.Common.{◌≡◌, ◌≢◌, ℕ, ◌<◌, ◌≤◌, List, [], length, refl, sym, ap, subst, ◌∙◌, arith, inl, inr, Result, Ok, Err, set, get_or-set_same, get_or-set_other}
 use Rattle.std.proofs.lemmas.Bool.{cases_eq}
 use Rattle.std.proofs.lemmas.List.{ext_get_or, length-set}
-use Rattle.std.specs.Prelude.{OnOk, OnErr}
-use Rattle.sector_disk.specs.Disk.{DiskState, Image, sector, IsImage, IsImageOr, IsNarrowed, IsSame, IsStable, IsWrite, Elapses, LeavesOnly, OnlyReads}
-use Rattle.sector_disk.proofs.Moments.{goes_on, joined, narrowed, one_call, reads_then, stable_image, stays, stays_or, weaker}
+use Rattle.std.specs.Prelude.{OnOk, OnErr, IfErr, IsErrAnd}
+use Rattle.sector_disk.specs.Disk.{DiskState, Image, sector, IsImage, IsImageOr, IsNarrowed, IsSame, IsStable, IsWrite, Elapses, LeavesOnly, OnlyReads, HasCause, HasFailed}
+use Rattle.sector_disk.proofs.Moments.{goes_on, joined, narrowed, one_call, reads_then, stable_image, stays, stays_or, weaker, failed_later}
 use Rattle.fs_layout.specs.declared.superblock.Super.{Super}
 use Rattle.fs_layout.specs.declared.version.Version.{Version}
 use Rattle.fs_layout.specs.declared.version.Version.TheVariants.{One, Two, Three}
@@ -14,8 +14,15 @@ use Rattle.fs_layout.proofs.SuperLaw.{super_codec}
 use Rattle.fs_layout.specs.Version.{max_file_size, slot_size}
 use Rattle.fs_model.specs.Stands.{Stands, room_in}
 use Rattle.fs_model.proofs.Upgraded.{stands_in_version}
-use Rattle.fs_images.specs.Standing.{StandsFor, StandsForSome, StandsAs}
-use Rattle.fs_images.specs.Upgrading.{raised, IsSuperOf, SaysVersion, StandsRaised, IsHalfUpgraded, IsUpgraded, SyncsAlone}
+use Rattle.fs_images.specs.Standing.{StandsFor, StandsForSome, StandsAs, HasFinding}
+use Rattle.fs_images.specs.Upgrading.{raised, IsSuperOf, SaysVersion, StandsRaised, IsHalfUpgraded, IsUpgraded, SyncsAlone, IsUpgradeFault, IsNotUpgraded}
+use Rattle.std.proofs.lemmas.Result.{err_from_is_err_and}
+use Rattle.fs_model.specs.Rules.{IsFinding}
+use Rattle.fs_check.specs.declared.faults.CheckFault.{CheckFault}
+use Rattle.fs_check.specs.declared.faults.CheckFault.TheVariants as checks
+use Rattle.fs_check.specs.Checks.{IsFirst, Passed}
+use Rattle.fs_images.specs.declared.faults.UpgradeFault.{UpgradeFault}
+use Rattle.fs_images.specs.declared.faults.UpgradeFault.TheVariants.{DiskFault}
 
 -- an upgrade leaves any version but the first
 pub kept_version : (version : Version) → version ≢ One → version ≡ raised version
@@ -196,7 +203,7 @@ same_joined first second = record {
   kept = λ n content holds. second.kept n content (first.kept n content holds);
 }
 
-on_err : {T E P : Type 0} (r : Result T E) → P → OnErr r P
+pub on_err : {T E P : Type 0} (r : Result T E) → P → OnErr r P
 on_err (Ok x) p = tt
 on_err (Err e) p = p
 
@@ -229,3 +236,40 @@ module _ (old mid : DiskState) (reads : OnlyReads old mid) where
       → (SaysVersion One old.seen → ⊥) → IsNarrowed old new
   then_narrowed new result alone other =
       narrowed_joined reads.narrowed (alone (λ says. other (subst (SaysVersion One) reads.narrowed.seen says))).narrowed
+
+-- ---- faults
+
+-- the fault of a later call is one of all
+pub later_cause : {T U E F : Type 0} {e : E} (old mid new : DiskState) → old.failures ≤ mid.failures → HasCause {T = T} mid new (Err e) → (r : Result U F)
+    → HasCause old new r
+later_cause old mid new first cause r = record {
+  later = let then = cause.later in omega (arith, first, then);
+  fault = on_err r (failed_later old mid new first cause.fault);
+}
+
+-- that of the first
+pub first_cause : {T U E F : Type 0} {e : E} (old new : DiskState) → HasCause {T = T} old new (Err e) → (r : Result U F) → HasCause old new r
+first_cause old new cause r = record { later = cause.later; fault = on_err r cause.fault }
+
+if_err : {T E : Type 0} {P Q : E → Type 0} (r : Result T E) → IsErrAnd r P → ((e : E) → P e → Q e) → IfErr r Q
+if_err (Ok x) told f = tt
+if_err (Err e) told f = f e told
+
+-- the device failed
+pub device_failed : {T : Type 0} (old new : DiskState) (r : Result T UpgradeFault) → IsErrAnd r (λ fault. fault ≡ DiskFault) → HasFailed old new
+    → IfErr r (IsNotUpgraded old new)
+device_failed old new r told failed = if_err r told (λ fault is. subst (IsNotUpgraded old new) (sym is) failed)
+
+-- a check ended with a fault
+pub check_failed : {T U : Type 0} (old new : DiskState) (found : CheckFault) (r : Result U UpgradeFault) → IsErrAnd r (IsUpgradeFault found)
+    → Passed {T = T} IsFirst old new (Err found) → IfErr r (IsNotUpgraded old new)
+check_failed {T} old new found r told passed = if_err r told (go found passed)
+  where
+    go : (found : CheckFault) → Passed {T = T} IsFirst old new (Err found) → (fault : UpgradeFault) → IsUpgradeFault found fault → IsNotUpgraded old new fault
+    go (checks.Found f) passed fault (inl no_system) =
+        subst (IsNotUpgraded old new) (sym no_system.1)
+        (f.at, record { finding = subst (λ k. IsFinding old.size (sector old.seen) k f.at) no_system.0 passed.reason; reads = passed.reads })
+    go (checks.Found f) passed fault (inr damage) =
+        subst (IsNotUpgraded old new) (sym damage.1) (record { finding = passed.reason; reads = passed.reads }, damage.0)
+    go checks.DiskFault passed fault is = subst (IsNotUpgraded old new) (sym is) passed.reason
+    go checks.OutOfMemory passed fault is = subst (IsNotUpgraded old new) (sym is) passed.reads

@@ -1,8 +1,8 @@
-use Rattle.std.proofs.Common.{subst, sym, ◌∙◌}
+use Rattle.std.proofs.Common.{subst, sym, ◌∙◌, arith}
 use Rattle.sector_disk.specs.Disk.{Image}
 use Rattle.fs_images.specs.Standing.{StandsForSome}
 use Rattle.fs_images.specs.Upgrading.{IsSuperOf}
-use Rattle.fs_images.proofs.Raising.{before_written, read_and_synced, raised_after, narrowed_joined, kept_version, synced_upgraded, upgraded_from, not_synced}
+use Rattle.fs_images.proofs.Raising.{before_written, read_and_synced, raised_after, narrowed_joined, kept_version, synced_upgraded, upgraded_from, not_synced, first_cause, later_cause, on_err}
 use Rattle.fs_images.proofs.upgrading.raise_version.Goals as goal
 
 pub returns-in_err-superblock-clause-any_moment : goal.returns-in_err-superblock-clause-any_moment
@@ -67,3 +67,51 @@ pub returns-in_err-sync-clause-unwritten : goal.returns-in_err-sync-clause-unwri
 returns-in_err-sync-clause-unwritten g c = λ other.
     not_synced (g.D.Disk.state c.args.disk.now) (g.D.Disk.state c.read_superblock.new.disk) (g.D.Disk.state c.sync.new.self)
     c.from_residual-in_err-sync.result c.read_superblock.ensures.same c.in_err-sync.ensures.failed
+
+pub returns-in_err-superblock-clause-unwritten : goal.returns-in_err-superblock-clause-unwritten
+returns-in_err-superblock-clause-unwritten g c = λ _. record { narrowed = c.read_superblock.ensures.same.narrowed; failed = on_err c.from_residual.result c.read_superblock.ensures.same }
+
+pub returns-in_default-clause-unwritten : goal.returns-in_default-clause-unwritten
+returns-in_default-clause-unwritten g c = λ _. record { narrowed = narrowed_joined c.read_superblock.ensures.same.narrowed c.sync.ensures.changes; failed = tt }
+
+pub write_raised-requires-clause-stable : goal.write_raised-requires-clause-stable
+write_raised-requires-clause-stable g c = c.in_ok-sync.ensures.stable
+
+pub returns-in_err-superblock-clause-size : goal.returns-in_err-superblock-clause-size
+returns-in_err-superblock-clause-size g c = c.read_superblock.ensures.same.narrowed.size
+
+pub returns-in_err-sync-clause-size : goal.returns-in_err-sync-clause-size
+returns-in_err-sync-clause-size g c = c.sync.ensures.changes.size ∙ c.read_superblock.ensures.same.narrowed.size
+
+pub returns-in_default-clause-size : goal.returns-in_default-clause-size
+returns-in_default-clause-size g c = c.sync.ensures.changes.size ∙ c.read_superblock.ensures.same.narrowed.size
+
+pub returns-in_err-write_raised-in-One-clause-size : goal.returns-in_err-write_raised-in-One-clause-size
+returns-in_err-write_raised-in-One-clause-size g c = c.write_raised.ensures.size ∙ c.sync.ensures.changes.size ∙ c.read_superblock.ensures.same.narrowed.size
+
+pub returns-in_ok-write_raised-in-One-clause-size : goal.returns-in_ok-write_raised-in-One-clause-size
+returns-in_ok-write_raised-in-One-clause-size g c = c.write_raised.ensures.size ∙ c.sync.ensures.changes.size ∙ c.read_superblock.ensures.same.narrowed.size
+
+pub returns-in_err-superblock-clause-cause : goal.returns-in_err-superblock-clause-cause
+returns-in_err-superblock-clause-cause g c =
+    first_cause (g.D.Disk.state c.args.disk.now) (g.D.Disk.state c.read_superblock.new.disk) c.in_err-superblock.ensures.cause c.from_residual.result
+
+pub returns-in_err-sync-clause-cause : goal.returns-in_err-sync-clause-cause
+returns-in_err-sync-clause-cause g c =
+    later_cause (g.D.Disk.state c.args.disk.now) (g.D.Disk.state c.read_superblock.new.disk) (g.D.Disk.state c.sync.new.self) c.read_superblock.ensures.cause.later
+    c.in_err-sync.ensures.cause c.from_residual-in_err-sync.result
+
+pub returns-in_default-clause-cause : goal.returns-in_default-clause-cause
+returns-in_default-clause-cause g c = record { later = omega (arith, c.read_superblock.ensures.cause.later, c.sync.ensures.cause.later); fault = tt }
+
+pub returns-in_err-write_raised-in-One-clause-cause : goal.returns-in_err-write_raised-in-One-clause-cause
+returns-in_err-write_raised-in-One-clause-cause g c =
+    later_cause (g.D.Disk.state c.args.disk.now) (g.D.Disk.state c.sync.new.self) (g.D.Disk.state c.write_raised.new.disk)
+    (omega (arith, c.read_superblock.ensures.cause.later, c.sync.ensures.cause.later)) c.in_err-write_raised-in-One.ensures.cause
+    c.from_residual-in_err-write_raised-in-One.result
+
+pub returns-in_ok-write_raised-in-One-clause-cause : goal.returns-in_ok-write_raised-in-One-clause-cause
+returns-in_ok-write_raised-in-One-clause-cause g c = record {
+  later = omega (arith, c.read_superblock.ensures.cause.later, c.sync.ensures.cause.later, c.write_raised.ensures.cause.later);
+  fault = tt;
+}

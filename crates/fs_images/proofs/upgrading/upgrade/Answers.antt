@@ -2,7 +2,8 @@ use Rattle.std.proofs.Common.{◌∙◌, ℕ, arith, sym, subst}
 use Rattle.sector_disk.specs.Disk.{sector}
 use Rattle.fs_model.specs.Stands.{Stands}
 use Rattle.fs_images.specs.Standing.{StandsForSome}
-use Rattle.fs_images.proofs.Raising.{check_then, then_upgraded, then_narrowed}
+use Rattle.fs_images.proofs.Raising.{check_then, then_upgraded, then_narrowed, before_written, check_failed, device_failed}
+use Rattle.sector_disk.proofs.Moments.{failed_later}
 use Rattle.fs_images.proofs.upgrading.upgrade.Goals as goal
 
 pub raise_version-requires : goal.raise_version-requires
@@ -58,3 +59,14 @@ returns-clause-failures g c = omega (arith, c.check.ensures.passed.reads.failure
 
 pub returns-in_err-check-clause-unwritten : goal.returns-in_err-check-clause-unwritten
 returns-in_err-check-clause-unwritten g c = λ _. c.check.ensures.passed.reads.narrowed
+
+pub returns-in_err-check-clause-failed : goal.returns-in_err-check-clause-failed
+returns-in_err-check-clause-failed g c =
+    check_failed (g.D.Disk.state c.args.disk.now) (g.D.Disk.state c.check.new.disk) _ c.from_residual.result c.from_residual.ensures.1 c.in_err-check.ensures.passed
+
+pub returns-in_err-raise_version-clause-failed : goal.returns-in_err-raise_version-clause-failed
+returns-in_err-raise_version-clause-failed g c =
+    let left = c.from_residual-in_err-raise_version in
+    device_failed (g.D.Disk.state c.args.disk.now) (g.D.Disk.state c.raise_version.new.disk) left.result left.ensures.1
+    (failed_later (g.D.Disk.state c.args.disk.now) (g.D.Disk.state c.check.new.disk) (g.D.Disk.state c.raise_version.new.disk) c.check.ensures.passed.reads.failures
+    c.in_err-raise_version.ensures.cause.fault)
