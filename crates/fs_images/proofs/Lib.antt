@@ -1,4 +1,5 @@
 pub mod Both
+pub mod Causes
 pub mod MakingMoments
 pub mod MakingRefusals
 pub mod MakingTables

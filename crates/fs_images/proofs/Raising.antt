@@ -3,8 +3,8 @@ use Rattle.std.proofs.Common.{◌≡◌, ◌≢◌, ℕ, ◌<◌, ◌≤◌, Lis
 use Rattle.std.proofs.lemmas.Bool.{cases_eq}
 use Rattle.std.proofs.lemmas.List.{ext_get_or, length-set}
 use Rattle.std.specs.Prelude.{OnOk, OnErr, IfErr, IsErrAnd}
-use Rattle.sector_disk.specs.Disk.{DiskState, Image, sector, IsImage, IsImageOr, IsNarrowed, IsSame, IsStable, IsWrite, Elapses, LeavesOnly, OnlyReads, HasCause, HasFailed}
-use Rattle.sector_disk.proofs.Moments.{goes_on, joined, narrowed, one_call, reads_then, stable_image, stays, stays_or, weaker, failed_later}
+use Rattle.sector_disk.specs.Disk.{DiskState, Image, sector, IsImage, IsImageOr, IsNarrowed, IsSame, IsStable, IsWrite, Elapses, LeavesOnly, OnlyReads, HasFailed}
+use Rattle.sector_disk.proofs.Moments.{goes_on, joined, narrowed, one_call, reads_then, stable_image, stays, stays_or, weaker}
 use Rattle.fs_layout.specs.declared.superblock.Super.{Super}
 use Rattle.fs_layout.specs.declared.version.Version.{Version}
 use Rattle.fs_layout.specs.declared.version.Version.TheVariants.{One, Two, Three}
@@ -16,6 +16,7 @@ use Rattle.fs_model.specs.Stands.{Stands, room_in}
 use Rattle.fs_model.proofs.Upgraded.{stands_in_version}
 use Rattle.fs_images.specs.Standing.{StandsFor, StandsForSome, StandsAs, HasFinding}
 use Rattle.fs_images.specs.Upgrading.{raised, IsSuperOf, SaysVersion, StandsRaised, IsHalfUpgraded, IsUpgraded, SyncsAlone, IsUpgradeFault, IsNotUpgraded}
+use Rattle.fs_images.proofs.Causes.{on_err}
 use Rattle.std.proofs.lemmas.Result.{err_from_is_err_and}
 use Rattle.fs_model.specs.Rules.{IsFinding}
 use Rattle.fs_check.specs.declared.faults.CheckFault.{CheckFault}
@@ -203,10 +204,6 @@ same_joined first second = record {
   kept = λ n content holds. second.kept n content (first.kept n content holds);
 }
 
-pub on_err : {T E P : Type 0} (r : Result T E) → P → OnErr r P
-on_err (Ok x) p = tt
-on_err (Err e) p = p
-
 pub not_synced : {T E : Type 0} (old mid new : DiskState) (result : Result T E) → IsSame old mid → IsSame mid new → SyncsAlone old new result
 not_synced old mid new result first second = record { narrowed = (same_joined first second).narrowed; failed = on_err result (same_joined first second) }
 
@@ -238,18 +235,6 @@ module _ (old mid : DiskState) (reads : OnlyReads old mid) where
       narrowed_joined reads.narrowed (alone (λ says. other (subst (SaysVersion One) reads.narrowed.seen says))).narrowed
 
 -- ---- faults
-
--- the fault of a later call is one of all
-pub later_cause : {T U E F : Type 0} {e : E} (old mid new : DiskState) → old.failures ≤ mid.failures → HasCause {T = T} mid new (Err e) → (r : Result U F)
-    → HasCause old new r
-later_cause old mid new first cause r = record {
-  later = let then = cause.later in omega (arith, first, then);
-  fault = on_err r (failed_later old mid new first cause.fault);
-}
-
--- that of the first
-pub first_cause : {T U E F : Type 0} {e : E} (old new : DiskState) → HasCause {T = T} old new (Err e) → (r : Result U F) → HasCause old new r
-first_cause old new cause r = record { later = cause.later; fault = on_err r cause.fault }
 
 if_err : {T E : Type 0} {P Q : E → Type 0} (r : Result T E) → IsErrAnd r P → ((e : E) → P e → Q e) → IfErr r Q
 if_err (Ok x) told f = tt

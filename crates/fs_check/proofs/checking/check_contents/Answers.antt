@@ -25,8 +25,9 @@ returns g c =
 pub acls-requires : goal.acls-requires
 acls-requires g c =
     let laid = c.in_ok-laid_out.ensures in
+    let s0 = g.D.Disk.state c.args.disk.now in
     record {
       opened = opened_still laid.passed.reads c.requires.opened;
       table = table_still laid.passed.reads c.requires.table;
-      before = before_still laid.passed.reads (next_before _ _ LaidOut 8 refl reads_nothing c.requires.before laid.each);
+      before = before_still laid.passed.reads (next_before s0 s0 LaidOut 8 refl reads_nothing c.requires.before laid.each);
     }

@@ -2,6 +2,7 @@ use Rattle.std.proofs.Common.{◌≡◌, ◌<◌, ◌≤◌, ◌∙◌, length, 
 use Rattle.sector_disk.proofs.Moments.{adds_write, goes_on, image_or}
 use Rattle.fs_layout.proofs.Places.{after_map}
 use Rattle.fs_images.proofs.MakingMoments.{same_beside, table_more}
+use Rattle.fs_images.proofs.Causes.{later_cause}
 use Rattle.fs_images.proofs.new_disk.write_tables.Goals as goal
 
 pub loop-n-preserved : goal.loop-n-preserved
@@ -23,3 +24,19 @@ loop-n-preserved g c =
       since = goes_on so_far.since c.write.ensures.time (image_or adds);
       failures = omega (arith, so_far.failures, c.write.ensures.cause.later);
     }
+
+pub returns-in_err-write-clause-adds : goal.returns-in_err-write-clause-adds
+returns-in_err-write-clause-adds g c =
+    let from : 128 ≤ c.loop-n.n = omega (arith, c.loop-n.auto.n, (after_map c.requires.geometry).0) in
+    adds_write c.loop-n.invariant.adds c.write.ensures.changes (λ k content is same. omega (arith, is, from))
+
+pub returns-in_err-write-clause-any_moment : goal.returns-in_err-write-clause-any_moment
+returns-in_err-write-clause-any_moment g c =
+    let from : 128 ≤ c.loop-n.n = omega (arith, c.loop-n.auto.n, (after_map c.requires.geometry).0) in
+    let adds = adds_write c.loop-n.invariant.adds c.write.ensures.changes (λ k content is same. omega (arith, is, from)) in
+    goes_on c.loop-n.invariant.since c.write.ensures.time (image_or adds)
+
+pub returns-in_err-write-clause-cause : goal.returns-in_err-write-clause-cause
+returns-in_err-write-clause-cause g c =
+    later_cause (g.D.Disk.state c.args.disk.now) (g.D.Disk.state c.loop-n.disk) (g.D.Disk.state c.write.new.self) c.loop-n.invariant.failures c.in_err-write.ensures.cause
+    c.from_residual.result

@@ -2,7 +2,8 @@ use Rattle.std.proofs.Common.{subst, sym, ◌∙◌, arith}
 use Rattle.sector_disk.specs.Disk.{Image}
 use Rattle.fs_images.specs.Standing.{StandsForSome}
 use Rattle.fs_images.specs.Upgrading.{IsSuperOf}
-use Rattle.fs_images.proofs.Raising.{before_written, read_and_synced, raised_after, narrowed_joined, kept_version, synced_upgraded, upgraded_from, not_synced, first_cause, later_cause, on_err}
+use Rattle.fs_images.proofs.Causes.{first_cause, later_cause, on_err}
+use Rattle.fs_images.proofs.Raising.{before_written, read_and_synced, raised_after, narrowed_joined, kept_version, synced_upgraded, upgraded_from, not_synced}
 use Rattle.fs_images.proofs.upgrading.raise_version.Goals as goal
 
 pub returns-in_err-superblock-clause-any_moment : goal.returns-in_err-superblock-clause-any_moment
