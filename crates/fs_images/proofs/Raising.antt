@@ -2,7 +2,7 @@
 use Rattle.std.proofs.Common.{◌≡◌, ◌≢◌, ℕ, ◌<◌, ◌≤◌, List, [], length, refl, sym, ap, subst, ◌∙◌, arith, inl, inr, Result, Ok, Err, set, get_or-set_same, get_or-set_other}
 use Rattle.std.proofs.lemmas.Bool.{cases_eq}
 use Rattle.std.proofs.lemmas.List.{ext_get_or, length-set}
-use Rattle.std.specs.Prelude.{OnOk, OnErr, IfErr, IsErrAnd}
+use Rattle.std.specs.Prelude.{OnOk, IfErr, IsErrAnd}
 use Rattle.sector_disk.specs.Disk.{DiskState, Image, sector, IsImage, IsImageOr, IsNarrowed, IsSame, IsStable, IsWrite, Elapses, LeavesOnly, OnlyReads, HasFailed}
 use Rattle.sector_disk.proofs.Moments.{goes_on, joined, narrowed, one_call, reads_then, stable_image, stays, stays_or, weaker}
 use Rattle.fs_layout.specs.declared.superblock.Super.{Super}
@@ -14,10 +14,9 @@ use Rattle.fs_layout.proofs.SuperLaw.{super_codec}
 use Rattle.fs_layout.specs.Version.{max_file_size, slot_size}
 use Rattle.fs_model.specs.Stands.{Stands, room_in}
 use Rattle.fs_model.proofs.Upgraded.{stands_in_version}
-use Rattle.fs_images.specs.Standing.{StandsFor, StandsForSome, StandsAs, HasFinding}
+use Rattle.fs_images.specs.Standing.{StandsFor, StandsForSome, StandsAs}
 use Rattle.fs_images.specs.Upgrading.{raised, IsSuperOf, SaysVersion, StandsRaised, IsHalfUpgraded, IsUpgraded, SyncsAlone, IsUpgradeFault, IsNotUpgraded}
 use Rattle.fs_images.proofs.Causes.{on_err}
-use Rattle.std.proofs.lemmas.Result.{err_from_is_err_and}
 use Rattle.fs_model.specs.Rules.{IsFinding}
 use Rattle.fs_check.specs.declared.faults.CheckFault.{CheckFault}
 use Rattle.fs_check.specs.declared.faults.CheckFault.TheVariants as checks

@@ -2,7 +2,7 @@ use Rattle.std.proofs.Common.{◌∙◌, ℕ, arith, sym, subst}
 use Rattle.sector_disk.specs.Disk.{sector}
 use Rattle.fs_model.specs.Stands.{Stands}
 use Rattle.fs_images.specs.Standing.{StandsForSome}
-use Rattle.fs_images.proofs.Raising.{check_then, then_upgraded, then_narrowed, before_written, check_failed, device_failed}
+use Rattle.fs_images.proofs.Raising.{check_then, then_upgraded, then_narrowed, check_failed, device_failed}
 use Rattle.sector_disk.proofs.Moments.{failed_later}
 use Rattle.fs_images.proofs.upgrading.upgrade.Goals as goal
 
