@@ -165,9 +165,10 @@ module _ {T : Type 0} (old mid new : DiskState) {p : Geometry} {area : ℕ} {tar
   both_obeyed second = on_ok x second (λ so. next_before old mid q (k + 1) then reads first_obeyed so)
 
 -- a part of several rules
-pub part_error : {T U : Type 0} (old mid new : DiskState) → OnlyReads old mid → (e y : CheckFault) (q : Result U CheckFault) → q ≡ Err y → y ≡ e
-    → Passed {T = T} IsFirst mid new (Err e) → Passed IsFirst old new q
-part_error old mid new reads e y q at same x = passed_err IsFirst IsFirst old mid new reads (reason_back reads new) e y q at same x
+pub part_error : {T U : Type 0} {e : CheckFault} {old mid new : DiskState} → OnlyReads old mid → (r : Result U CheckFault) → IsErrAnd r (λ y. y ≡ e)
+    → Passed {T = T} IsFirst mid new (Err e) → Passed IsFirst old new r
+part_error {e = e} {old} {mid} {new} reads r told x =
+    let q = err_from_is_err_and r told in passed_err IsFirst IsFirst old mid new reads (reason_back reads new) e q.0 r q.1 q.2 x
 
 pub part_passed : {T : Type 0} (old mid new : DiskState) → OnlyReads old mid → (q : Result T CheckFault) → Passed IsFirst mid new q → Passed IsFirst old new q
 part_passed old mid new reads q x = passed_on IsFirst IsFirst old mid new reads (reason_back reads new) q x
@@ -178,9 +179,9 @@ if_ok (Err e) p f = tt
 
 -- ---- what is told of no rule
 -- the disk failed at a later read, or there was no memory for it
-pub read_error : {T U : Type 0} {I : DiskState → ℕ → ℕ → Type 0} {e : CheckFault} (old mid new : DiskState) → OnlyReads old mid
+pub read_error : {T U : Type 0} {I : DiskState → ℕ → ℕ → Type 0} {e : CheckFault} {old mid new : DiskState} → OnlyReads old mid
     → (r : Result U CheckFault) → IsErrAnd r (λ y. y ≡ e) → Passed {T = T} IsNone mid new (Err e) → Passed I old new r
-read_error {T} {U} {I} {e} old mid new reads r told x =
+read_error {T} {U} {I} {e} {old} {mid} {new} reads r told x =
     let q = err_from_is_err_and r told in passed_err {T = T} {U = U} IsNone I old mid new reads because e q.0 r q.1 q.2 x
   where
     because : (y : CheckFault) → IsReason IsNone mid new y → IsReason I old new y
@@ -189,9 +190,9 @@ read_error {T} {U} {I} {e} old mid new reads r told x =
     because OutOfMemory h = tt
 
 -- a later part of one rule
-pub least_error : {T U : Type 0} {p : Geometry} {rule : ImageRule} {e : CheckFault} (old mid new : DiskState) → OnlyReads old mid
+pub least_error : {T U : Type 0} {p : Geometry} {rule : ImageRule} {e : CheckFault} {old mid new : DiskState} → OnlyReads old mid
     → (r : Result U CheckFault) → IsErrAnd r (λ y. y ≡ e) → Passed {T = T} (IsLeast p rule) mid new (Err e) → Passed (IsLeast p rule) old new r
-least_error {T} {U} {p} {rule} {e} old mid new reads r told x =
+least_error {T} {U} {p} {rule} {e} {old} {mid} {new} reads r told x =
     let q = err_from_is_err_and r told in
     passed_err {T = T} {U = U} (IsLeast p rule) (IsLeast p rule) old mid new reads because e q.0 r q.1 q.2 x
   where
@@ -201,13 +202,13 @@ least_error {T} {U} {p} {rule} {e} old mid new reads r told x =
     because OutOfMemory h = tt
 
 -- the part that ended the check tells of the same rule
-pub same_error : {T U : Type 0} {I : DiskState → ℕ → ℕ → Type 0} {e : CheckFault} (old new : DiskState) → (r : Result U CheckFault) → IsErrAnd r (λ y. y ≡ e)
+pub same_error : {T U : Type 0} {I : DiskState → ℕ → ℕ → Type 0} {e : CheckFault} {old new : DiskState} → (r : Result U CheckFault) → IsErrAnd r (λ y. y ≡ e)
     → Passed {T = T} I old new (Err e) → Passed I old new r
-same_error {T} {U} {I} {e} old new r told x =
+same_error {T} {U} {I} {e} {old} {new} r told x =
     let q = err_from_is_err_and r told in passed_err {T = T} {U = U} I I old old new reads_nothing (λ y h. h) e q.0 r q.1 q.2 x
 
 -- there was no memory for a table
-pub memory_error : {U : Type 0} {I : DiskState → ℕ → ℕ → Type 0} (old new : DiskState) → OnlyReads old new → (r : Result U CheckFault)
+pub memory_error : {U : Type 0} {I : DiskState → ℕ → ℕ → Type 0} {old new : DiskState} → OnlyReads old new → (r : Result U CheckFault)
     → IsErrAnd r (λ y. y ≡ OutOfMemory) → Passed I old new r
-memory_error old new reads (Ok x) told = absurd told
-memory_error {I = I} old new reads (Err y) told = record { reads = reads; reason = subst (IsReason I old new) (sym told) tt }
+memory_error reads (Ok x) told = absurd told
+memory_error {I = I} {old} {new} reads (Err y) told = record { reads = reads; reason = subst (IsReason I old new) (sym told) tt }

@@ -2,13 +2,10 @@ use Rattle.fs_check.proofs.Carrying.{memory_error, same_error}
 use Rattle.fs_check.proofs.acls.has_default_acl.Goals as goal
 
 pub returns-in_err-read_recovered-clause-passed : goal.returns-in_err-read_recovered-clause-passed
-returns-in_err-read_recovered-clause-passed g c =
-    same_error (g.D.Disk.state c.args.disk.now) (g.D.Disk.state c.read_recovered.new.disk) c.from_residual.result c.from_residual.ensures.1 c.in_err-read_recovered.ensures.passed
+returns-in_err-read_recovered-clause-passed g c = same_error c.from_residual.result c.from_residual.ensures.1 c.in_err-read_recovered.ensures.passed
 
 pub returns-in_err-is_default_acl-clause-passed : goal.returns-in_err-is_default_acl-clause-passed
-returns-in_err-is_default_acl-clause-passed g c =
-    let left = c.from_residual-in_err-is_default_acl in
-    memory_error (g.D.Disk.state c.args.disk.now) (g.D.Disk.state c.read_recovered.new.disk) c.in_ok-read_recovered.ensures.passed.reads left.result left.ensures.1
+returns-in_err-is_default_acl-clause-passed g c = memory_error c.in_ok-read_recovered.ensures.passed.reads c.from_residual-in_err-is_default_acl.result c.from_residual-in_err-is_default_acl.ensures.1
 
 pub returns-clause-passed : goal.returns-clause-passed
 returns-clause-passed g c = record { reads = c.in_ok-read_recovered.ensures.passed.reads; reason = tt }

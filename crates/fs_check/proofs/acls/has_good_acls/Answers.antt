@@ -1,7 +1,6 @@
 use Rattle.fs_check.specs.Checks.{meaning}
-use Rattle.fs_check.proofs.Carrying.{if_ok, opened_still, same_error}
+use Rattle.fs_check.proofs.Carrying.{if_ok, opened_still}
 use Rattle.fs_check.proofs.InodeAcls.{misplaced, bad_access, good_by_default}
-use Rattle.sector_disk.proofs.Moments.{reads_nothing}
 use Rattle.fs_check.proofs.acls.has_good_acls.Goals as goal
 
 pub returns-then-not-is_in_place-clause-test : goal.returns-then-not-is_in_place-clause-test
@@ -18,16 +17,6 @@ returns-clause-test g c = if_ok c.has_default_acl.result c.has_default_acl.ensur
     good_by_default (g.D.Disk.state c.args.disk.now) (g.D.Disk.state c.has_access_acl.new.disk) c.args.inode.now c.in_ok-has_access_acl.ensures.passed.reads
     c.is_in_place.result c.in_ok-has_access_acl.field-0 r
     c.if-not-is_in_place.false c.if-not-branch.false c.is_in_place.ensures c.in_ok-has_access_acl.ensures.test later)
-
-pub returns-then-not-is_in_place-clause-passed : goal.returns-then-not-is_in_place-clause-passed
-returns-then-not-is_in_place-clause-passed g c = record { reads = reads_nothing; reason = tt }
-
-pub returns-in_err-has_access_acl-clause-passed : goal.returns-in_err-has_access_acl-clause-passed
-returns-in_err-has_access_acl-clause-passed g c =
-    same_error (g.D.Disk.state c.args.disk.now) (g.D.Disk.state c.has_access_acl.new.disk) c.from_residual.result c.from_residual.ensures.1 c.in_err-has_access_acl.ensures.passed
-
-pub returns-then-not-branch-clause-passed : goal.returns-then-not-branch-clause-passed
-returns-then-not-branch-clause-passed g c = record { reads = c.in_ok-has_access_acl.ensures.passed.reads; reason = tt }
 
 pub has_default_acl-requires-clause-opened : goal.has_default_acl-requires-clause-opened
 has_default_acl-requires-clause-opened g c = opened_still c.in_ok-has_access_acl.ensures.passed.reads c.requires.opened

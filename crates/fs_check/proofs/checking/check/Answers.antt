@@ -3,7 +3,6 @@ use Rattle.sector_disk.proofs.Moments.{reads_joined}
 use Rattle.fs_model.specs.Rules.{HasWholeSectors}
 use Rattle.fs_check.proofs.Clean.{whole_seen, clean_after, first_within, none_before}
 use Rattle.fs_check.proofs.Carrying.{part_error, same_error}
-use Rattle.std.proofs.lemmas.Result.{err_from_is_err_and}
 use Rattle.fs_check.proofs.checking.check.Goals as goal
 
 pub summary-requires : goal.summary-requires
@@ -30,30 +29,22 @@ returns-clause-clean g c =
     r3 c.in_ok-owned.ensures.owners c.in_ok-owned.ensures.before c.summary.ensures
 
 pub returns-in_err-geometry-clause-passed : goal.returns-in_err-geometry-clause-passed
-returns-in_err-geometry-clause-passed g c =
-    same_error (g.D.Disk.state c.args.disk.now) (g.D.Disk.state c.open_geometry.new.disk) c.from_residual.result c.from_residual.ensures.1 c.in_err-geometry.ensures.passed
+returns-in_err-geometry-clause-passed g c = same_error c.from_residual.result c.from_residual.ensures.1 c.in_err-geometry.ensures.passed
 
 pub returns-in_err-area-clause-passed : goal.returns-in_err-area-clause-passed
 returns-in_err-area-clause-passed g c =
-    let left = c.from_residual-in_err-area in
-    let q = err_from_is_err_and left.result left.ensures.1 in
-    part_error (g.D.Disk.state c.args.disk.now) (g.D.Disk.state c.open_geometry.new.disk) (g.D.Disk.state c.open_commit.new.disk) c.in_ok-geometry.ensures.passed.reads
-    _ q.0 left.result q.1 q.2 c.in_err-area.ensures.passed
+    let left = c.from_residual-in_err-area in part_error c.in_ok-geometry.ensures.passed.reads left.result left.ensures.1 c.in_err-area.ensures.passed
 
 pub returns-in_err-inodes-clause-passed : goal.returns-in_err-inodes-clause-passed
 returns-in_err-inodes-clause-passed g c =
     let left = c.from_residual-in_err-inodes in
-    let q = err_from_is_err_and left.result left.ensures.1 in
-    part_error (g.D.Disk.state c.args.disk.now) (g.D.Disk.state c.open_commit.new.disk) (g.D.Disk.state c.check_tables.new.disk)
-    (reads_joined c.in_ok-geometry.ensures.passed.reads c.in_ok-area.ensures.passed.reads) _ q.0 left.result q.1 q.2 c.in_err-inodes.ensures.passed
+    part_error (reads_joined c.in_ok-geometry.ensures.passed.reads c.in_ok-area.ensures.passed.reads) left.result left.ensures.1 c.in_err-inodes.ensures.passed
 
 pub returns-in_err-owned-clause-passed : goal.returns-in_err-owned-clause-passed
 returns-in_err-owned-clause-passed g c =
     let left = c.from_residual-in_err-owned in
-    let q = err_from_is_err_and left.result left.ensures.1 in
     let reads = reads_joined c.in_ok-geometry.ensures.passed.reads c.in_ok-area.ensures.passed.reads in
-    part_error (g.D.Disk.state c.args.disk.now) (g.D.Disk.state c.check_tables.new.disk) (g.D.Disk.state c.check_inodes.new.disk)
-    (reads_joined reads c.in_ok-inodes.ensures.passed.reads) _ q.0 left.result q.1 q.2 c.in_err-owned.ensures.passed
+    part_error (reads_joined reads c.in_ok-inodes.ensures.passed.reads) left.result left.ensures.1 c.in_err-owned.ensures.passed
 
 pub returns-clause-passed : goal.returns-clause-passed
 returns-clause-passed g c =

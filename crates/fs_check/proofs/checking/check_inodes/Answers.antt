@@ -1,7 +1,7 @@
 use Rattle.std.proofs.lemmas.Result.{err_from_is_err_and}
 use Rattle.sector_disk.specs.Disk.{OnlyReads}
-use Rattle.sector_disk.proofs.Moments.{reads_nothing, reads_joined}
-use Rattle.fs_check.proofs.Carrying.{opened_still, table_still, before_still, before_back, part_error, failed_of}
+use Rattle.sector_disk.proofs.Moments.{reads_joined}
+use Rattle.fs_check.proofs.Carrying.{opened_still, table_still, before_still, before_back, part_error, same_error, failed_of}
 use Rattle.fs_check.proofs.checking.check_inodes.Goals as goal
 
 pub returns-in_err-check_tree-clause-passed : goal.returns-in_err-check_tree-clause-passed
@@ -15,11 +15,7 @@ returns-in_err-check_tree-clause-passed g c =
     (c.in_err-check_tree.ensures _ (table_still r2 c.requires.table) c.in_ok-names.ensures.names c.in_ok-names.ensures.before)
 
 pub returns-in_err-owned-clause-passed : goal.returns-in_err-owned-clause-passed
-returns-in_err-owned-clause-passed g c =
-    let s0 = g.D.Disk.state c.args.disk.now in
-    let left = c.from_residual in
-    let q = err_from_is_err_and left.result left.ensures.1 in
-    part_error s0 s0 (g.D.Disk.state c.check_owners.new.disk) reads_nothing _ q.0 left.result q.1 q.2 c.in_err-owned.ensures.passed
+returns-in_err-owned-clause-passed g c = same_error c.from_residual.result c.from_residual.ensures.1 c.in_err-owned.ensures.passed
 
 pub check_contents-requires : goal.check_contents-requires
 check_contents-requires g c =
@@ -29,9 +25,7 @@ check_contents-requires g c =
 pub returns-in_err-check_contents-clause-passed : goal.returns-in_err-check_contents-clause-passed
 returns-in_err-check_contents-clause-passed g c =
     let left = c.from_residual-in_err-check_contents in
-    let q = err_from_is_err_and left.result left.ensures.1 in
-    part_error (g.D.Disk.state c.args.disk.now) (g.D.Disk.state c.check_owners.new.disk) (g.D.Disk.state c.check_contents.new.disk) c.in_ok-owned.ensures.passed.reads
-    _ q.0 left.result q.1 q.2 c.in_err-check_contents.ensures.passed
+    part_error c.in_ok-owned.ensures.passed.reads left.result left.ensures.1 c.in_err-check_contents.ensures.passed
 
 pub check_names-requires : goal.check_names-requires
 check_names-requires g c =
@@ -42,10 +36,8 @@ check_names-requires g c =
 pub returns-in_err-names-clause-passed : goal.returns-in_err-names-clause-passed
 returns-in_err-names-clause-passed g c =
     let left = c.from_residual-in_err-names in
-    let q = err_from_is_err_and left.result left.ensures.1 in
     let reads = reads_joined c.in_ok-owned.ensures.passed.reads c.in_ok-check_contents.ensures.passed.reads in
-    part_error (g.D.Disk.state c.args.disk.now) (g.D.Disk.state c.check_contents.new.disk) (g.D.Disk.state c.check_names.new.disk) reads
-    _ q.0 left.result q.1 q.2 c.in_err-names.ensures.passed
+    part_error reads left.result left.ensures.1 c.in_err-names.ensures.passed
 
 pub returns-clause-before : goal.returns-clause-before
 returns-clause-before g c =

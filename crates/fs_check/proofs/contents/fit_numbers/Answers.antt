@@ -14,8 +14,14 @@ returns-then-not-branch-clause-test g c =
     let v = c.args.inode.now in
     not_fit m v (IsTrimmed m v) c.in_ok-is_trimmed.field-0 (λ fit. fit.trim) c.in_ok-is_trimmed.ensures.test c.if-not-branch.true
 
-pub has_no_hole-requires-clause-in_data : goal.has_no_hole-requires-clause-in_data
-has_no_hole-requires-clause-in_data g c = owns_still c.in_ok-is_trimmed.ensures.passed.reads c.args.opened.now.geometry c.args.inode.now c.requires.in_data
+pub has_no_hole-requires : goal.has_no_hole-requires
+has_no_hole-requires g c =
+    let reads = c.in_ok-is_trimmed.ensures.passed.reads in
+    record {
+      opened = opened_still reads c.requires.opened;
+      in_data = owns_still reads c.args.opened.now.geometry c.args.inode.now c.requires.in_data;
+      at_hand = hand_still reads c.is_trimmed.new.pointers c.in_ok-is_trimmed.ensures.at_hand;
+    }
 
 pub returns-clause-test : goal.returns-clause-test
 returns-clause-test g c =
@@ -28,8 +34,7 @@ returns-clause-test g c =
     )
 
 pub returns-in_err-is_trimmed-clause-passed : goal.returns-in_err-is_trimmed-clause-passed
-returns-in_err-is_trimmed-clause-passed g c =
-    same_error (g.D.Disk.state c.args.disk.now) (g.D.Disk.state c.is_trimmed.new.disk) c.from_residual.result c.from_residual.ensures.1 c.in_err-is_trimmed.ensures.passed
+returns-in_err-is_trimmed-clause-passed g c = same_error c.from_residual.result c.from_residual.ensures.1 c.in_err-is_trimmed.ensures.passed
 
 pub returns-then-not-branch-clause-passed : goal.returns-then-not-branch-clause-passed
 returns-then-not-branch-clause-passed g c = record { reads = c.in_ok-is_trimmed.ensures.passed.reads; reason = tt }
@@ -37,17 +42,8 @@ returns-then-not-branch-clause-passed g c = record { reads = c.in_ok-is_trimmed.
 pub returns-then-eq-clause-passed : goal.returns-then-eq-clause-passed
 returns-then-eq-clause-passed g c = record { reads = c.in_ok-is_trimmed.ensures.passed.reads; reason = tt }
 
-pub has_no_hole-requires-clause-opened : goal.has_no_hole-requires-clause-opened
-has_no_hole-requires-clause-opened g c = opened_still c.in_ok-is_trimmed.ensures.passed.reads c.requires.opened
-
-pub has_no_hole-requires-clause-at_hand : goal.has_no_hole-requires-clause-at_hand
-has_no_hole-requires-clause-at_hand g c = hand_still c.in_ok-is_trimmed.ensures.passed.reads c.is_trimmed.new.pointers c.in_ok-is_trimmed.ensures.at_hand
-
 pub returns-in_err-whole-clause-passed : goal.returns-in_err-whole-clause-passed
-returns-in_err-whole-clause-passed g c =
-    let left = c.from_residual-in_err-whole in
-    read_error (g.D.Disk.state c.args.disk.now) (g.D.Disk.state c.is_trimmed.new.disk) (g.D.Disk.state c.has_no_hole.new.disk) c.in_ok-is_trimmed.ensures.passed.reads left.result left.ensures.1
-    c.in_err-whole.ensures.passed
+returns-in_err-whole-clause-passed g c = read_error c.in_ok-is_trimmed.ensures.passed.reads c.from_residual-in_err-whole.result c.from_residual-in_err-whole.ensures.1 c.in_err-whole.ensures.passed
 
 pub returns-clause-at_hand : goal.returns-clause-at_hand
 returns-clause-at_hand g c = hand_back c.in_ok-is_trimmed.ensures.passed.reads c.has_no_hole.new.pointers c.in_ok-whole.ensures.at_hand

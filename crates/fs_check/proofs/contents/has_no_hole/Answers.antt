@@ -49,9 +49,7 @@ returns-clause-test g c = (
 )
 
 pub returns-in_err-number-clause-passed : goal.returns-in_err-number-clause-passed
-returns-in_err-number-clause-passed g c =
-    read_error (g.D.Disk.state c.args.disk.now) (g.D.Disk.state c.loop-k.disk) (g.D.Disk.state c.number.new.disk) c.loop-k.invariant.reads
-    c.from_residual.result c.from_residual.ensures.1 c.in_err-number.ensures.passed
+returns-in_err-number-clause-passed g c = read_error c.loop-k.invariant.reads c.from_residual.result c.from_residual.ensures.1 c.in_err-number.ensures.passed
 
 pub returns-then-branch-eq0-clause-passed : goal.returns-then-branch-eq0-clause-passed
 returns-then-branch-eq0-clause-passed g c = record { reads = reads_joined c.loop-k.invariant.reads c.in_ok-number.ensures.passed.reads; reason = tt }

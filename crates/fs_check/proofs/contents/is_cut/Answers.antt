@@ -75,8 +75,7 @@ pub returns-then-above-eq0-clause-passed : goal.returns-then-above-eq0-clause-pa
 returns-then-above-eq0-clause-passed g c = record { reads = reads_nothing; reason = tt }
 
 pub returns-in_err-find-clause-passed : goal.returns-in_err-find-clause-passed
-returns-in_err-find-clause-passed g c =
-    same_error (g.D.Disk.state c.args.disk.now) (g.D.Disk.state c.find.new.disk) c.from_residual.result c.from_residual.ensures.1 c.in_err-find.ensures.passed
+returns-in_err-find-clause-passed g c = same_error c.from_residual.result c.from_residual.ensures.1 c.in_err-find.ensures.passed
 
 pub returns-then-branch-eq0-clause-passed : goal.returns-then-branch-eq0-clause-passed
 returns-then-branch-eq0-clause-passed g c = record { reads = c.in_ok-find.ensures.passed.reads; reason = tt }

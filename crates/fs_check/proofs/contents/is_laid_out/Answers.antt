@@ -66,8 +66,7 @@ returns-clause-test g c =
     laid_out_last m v fit last (m last) (is ∙ ap (pointer m v) at) c.if-last-eq0.false refl c.in_ok-fits.fits c.requires.size.short test
 
 pub returns-in_err-fit_numbers-clause-passed : goal.returns-in_err-fit_numbers-clause-passed
-returns-in_err-fit_numbers-clause-passed g c =
-    same_error (g.D.Disk.state c.args.disk.now) (g.D.Disk.state c.fit_numbers.new.disk) c.from_residual.result c.from_residual.ensures.1 c.in_err-fit_numbers.ensures.passed
+returns-in_err-fit_numbers-clause-passed g c = same_error c.from_residual.result c.from_residual.ensures.1 c.in_err-fit_numbers.ensures.passed
 
 pub returns-then-not-branch-clause-passed : goal.returns-then-not-branch-clause-passed
 returns-then-not-branch-clause-passed g c = record { reads = c.in_ok-fit_numbers.ensures.passed.reads; reason = tt }
@@ -79,19 +78,13 @@ pub number-requires-clause-at_hand : goal.number-requires-clause-at_hand
 number-requires-clause-at_hand g c = hand_still c.in_ok-fit_numbers.ensures.passed.reads c.fit_numbers.new.pointers c.in_ok-fit_numbers.ensures.at_hand
 
 pub returns-in_err-last-clause-passed : goal.returns-in_err-last-clause-passed
-returns-in_err-last-clause-passed g c =
-    let left = c.from_residual-in_err-last in
-    read_error (g.D.Disk.state c.args.disk.now) (g.D.Disk.state c.fit_numbers.new.disk) (g.D.Disk.state c.number.new.disk) c.in_ok-fit_numbers.ensures.passed.reads left.result left.ensures.1
-    c.in_err-last.ensures.passed
+returns-in_err-last-clause-passed g c = read_error c.in_ok-fit_numbers.ensures.passed.reads c.from_residual-in_err-last.result c.from_residual-in_err-last.ensures.1 c.in_err-last.ensures.passed
 
 pub returns-then-last-eq0-clause-passed : goal.returns-then-last-eq0-clause-passed
 returns-then-last-eq0-clause-passed g c = record { reads = reads_joined c.in_ok-fit_numbers.ensures.passed.reads c.in_ok-last.ensures.passed.reads; reason = tt }
 
 pub returns-in_err-fits-clause-passed : goal.returns-in_err-fits-clause-passed
-returns-in_err-fits-clause-passed g c =
-    let left = c.from_residual-in_err-fits in
-    read_error (g.D.Disk.state c.args.disk.now) (g.D.Disk.state c.number.new.disk) (g.D.Disk.state c.fits_block.new.disk)
-    (reads_joined c.in_ok-fit_numbers.ensures.passed.reads c.in_ok-last.ensures.passed.reads) left.result left.ensures.1 c.in_err-fits.ensures.passed
+returns-in_err-fits-clause-passed g c = read_error (reads_joined c.in_ok-fit_numbers.ensures.passed.reads c.in_ok-last.ensures.passed.reads) c.from_residual-in_err-fits.result c.from_residual-in_err-fits.ensures.1 c.in_err-fits.ensures.passed
 
 pub returns-clause-passed : goal.returns-clause-passed
 returns-clause-passed g c =

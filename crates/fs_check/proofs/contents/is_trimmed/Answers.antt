@@ -57,9 +57,7 @@ returns-clause-test g c = (
 )
 
 pub returns-in_err-is_cut-clause-passed : goal.returns-in_err-is_cut-clause-passed
-returns-in_err-is_cut-clause-passed g c =
-    read_error (g.D.Disk.state c.args.disk.now) (g.D.Disk.state c.loop-level.disk) (g.D.Disk.state c.is_cut.new.disk) c.loop-level.invariant.reads
-    c.from_residual.result c.from_residual.ensures.1 c.in_err-is_cut.ensures.passed
+returns-in_err-is_cut-clause-passed g c = read_error c.loop-level.invariant.reads c.from_residual.result c.from_residual.ensures.1 c.in_err-is_cut.ensures.passed
 
 pub returns-then-not-branch-clause-passed : goal.returns-then-not-branch-clause-passed
 returns-then-not-branch-clause-passed g c = record { reads = reads_joined c.loop-level.invariant.reads c.in_ok-is_cut.ensures.passed.reads; reason = tt }

@@ -68,9 +68,7 @@ pub is_laid_out-requires-clause-at_hand : goal.is_laid_out-requires-clause-at_ha
 is_laid_out-requires-clause-at_hand g c = hand_still c.loop-ino.invariant.tried.reads c.loop-ino.pointers c.loop-ino.invariant.at_hand
 
 pub returns-in_err-is_laid_out-clause-passed : goal.returns-in_err-is_laid_out-clause-passed
-returns-in_err-is_laid_out-clause-passed g c =
-    read_error (g.D.Disk.state c.args.disk.now) (g.D.Disk.state c.loop-ino.disk) (g.D.Disk.state c.is_laid_out.new.disk) c.loop-ino.invariant.tried.reads c.from_residual.result
-    c.from_residual.ensures.1 c.in_err-is_laid_out.ensures.passed
+returns-in_err-is_laid_out-clause-passed g c = read_error c.loop-ino.invariant.tried.reads c.from_residual.result c.from_residual.ensures.1 c.in_err-is_laid_out.ensures.passed
 
 pub returns-clause-passed : goal.returns-clause-passed
 returns-clause-passed g c = record { reads = c.loop-ino.invariant.tried.reads; reason = tt }

@@ -80,10 +80,7 @@ pub add_directory-requires-clause-before : goal.add_directory-requires-clause-be
 add_directory-requires-clause-before g c = before_still c.loop-dir_ino.invariant.reads c.requires.before
 
 pub returns-in_err-add_directory-clause-passed : goal.returns-in_err-add_directory-clause-passed
-returns-in_err-add_directory-clause-passed g c =
-    let left = c.from_residual in
-    read_error (g.D.Disk.state c.args.disk.now) (g.D.Disk.state c.loop-dir_ino.disk) (g.D.Disk.state c.add_directory.new.disk) c.loop-dir_ino.invariant.reads left.result left.ensures.1
-    c.in_err-add_directory.ensures.passed
+returns-in_err-add_directory-clause-passed g c = read_error c.loop-dir_ino.invariant.reads c.from_residual.result c.from_residual.ensures.1 c.in_err-add_directory.ensures.passed
 
 pub returns-clause-passed : goal.returns-clause-passed
 returns-clause-passed g c = record { reads = c.loop-dir_ino.invariant.reads; reason = tt }

@@ -100,8 +100,7 @@ pub returns-then-ne-clause-passed : goal.returns-then-ne-clause-passed
 returns-then-ne-clause-passed g c = record { reads = reads_nothing; reason = tt }
 
 pub returns-in_err-slots-clause-passed : goal.returns-in_err-slots-clause-passed
-returns-in_err-slots-clause-passed g c =
-    same_error (g.D.Disk.state c.args.disk.now) (g.D.Disk.state c.read_good_slots.new.disk) c.from_residual.result c.from_residual.ensures.1 c.in_err-slots.ensures.passed
+returns-in_err-slots-clause-passed g c = same_error c.from_residual.result c.from_residual.ensures.1 c.in_err-slots.ensures.passed
 
 pub returns-in_default-clause-passed : goal.returns-in_default-clause-passed
 returns-in_default-clause-passed g c = record { reads = c.in_ok-slots.ensures.passed.reads; reason = tt }

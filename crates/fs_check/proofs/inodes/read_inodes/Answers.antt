@@ -40,10 +40,7 @@ loop-k-preserved g c =
     }
 
 pub returns-in_err-read_sector-clause-passed : goal.returns-in_err-read_sector-clause-passed
-returns-in_err-read_sector-clause-passed g c =
-    let left = c.from_residual-in_err-read_sector in
-    least_error (g.D.Disk.state c.args.disk.now) (g.D.Disk.state c.loop-k.disk) (g.D.Disk.state c.read_sector.new.disk) c.loop-k.invariant.reads left.result left.ensures.1
-    c.in_err-read_sector.ensures.passed
+returns-in_err-read_sector-clause-passed g c = least_error c.loop-k.invariant.reads c.from_residual-in_err-read_sector.result c.from_residual-in_err-read_sector.ensures.1 c.in_err-read_sector.ensures.passed
 
 pub returns-clause-each : goal.returns-clause-each
 returns-clause-each g c = λ n lt.

@@ -65,10 +65,7 @@ returns-in-None-clause-passed g c =
     }
 
 pub returns-in_err-read_table-clause-passed : goal.returns-in_err-read_table-clause-passed
-returns-in_err-read_table-clause-passed g c =
-    let left = c.from_residual in
-    read_error (g.D.Disk.state c.args.disk.now) (g.D.Disk.state c.loop-ino.disk) (g.D.Disk.state c.read_table.new.disk) c.loop-ino.invariant.reads left.result left.ensures.1
-    c.in_err-read_table.ensures.passed
+returns-in_err-read_table-clause-passed g c = read_error c.loop-ino.invariant.reads c.from_residual.result c.from_residual.ensures.1 c.in_err-read_table.ensures.passed
 
 pub keep_inode-requires-clause-room : goal.keep_inode-requires-clause-room
 keep_inode-requires-clause-room g c =

@@ -74,8 +74,7 @@ returns-clause-marked g t c = λ good n is x.
     (c.in_ok-mark_level.ensures.marked c.if-not-branch.false n is x))
 
 pub returns-in_err-mark_level-clause-passed : goal.returns-in_err-mark_level-clause-passed
-returns-in_err-mark_level-clause-passed g t c =
-    same_error (g.D.Disk.state c.args.disk.now) (g.D.Disk.state c.mark_level.new.disk) c.from_residual.result c.from_residual.ensures.1 c.in_err-mark_level.ensures.passed
+returns-in_err-mark_level-clause-passed g t c = same_error c.from_residual.result c.from_residual.ensures.1 c.in_err-mark_level.ensures.passed
 
 pub returns-then-not-branch-clause-at_hand : goal.returns-then-not-branch-clause-at_hand
 returns-then-not-branch-clause-at_hand g t c = c.in_ok-mark_level.ensures.at_hand
@@ -93,10 +92,7 @@ pub returns-then-not-branch-clause-marked : goal.returns-then-not-branch-clause-
 returns-then-not-branch-clause-marked g t c = λ f. absurd (false≢true f)
 
 pub returns-in_err-marked-clause-passed : goal.returns-in_err-marked-clause-passed
-returns-in_err-marked-clause-passed g t c =
-    let left = c.from_residual-in_err-marked in
-    read_error (g.D.Disk.state c.args.disk.now) (g.D.Disk.state c.mark_level.new.disk) (g.D.Disk.state c.mark_levels.new.disk) c.in_ok-mark_level.ensures.passed.reads left.result left.ensures.1
-    c.in_err-marked.ensures.passed
+returns-in_err-marked-clause-passed g t c = read_error c.in_ok-mark_level.ensures.passed.reads c.from_residual-in_err-marked.result c.from_residual-in_err-marked.ensures.1 c.in_err-marked.ensures.passed
 
 pub returns-clause-at_hand : goal.returns-clause-at_hand
 returns-clause-at_hand g t c = hand_back c.in_ok-mark_level.ensures.passed.reads c.mark_levels.new.pointers c.in_ok-marked.ensures.at_hand

@@ -93,9 +93,7 @@ mark_inode-requires g c =
     }
 
 pub returns-in_err-mark_inode-clause-passed : goal.returns-in_err-mark_inode-clause-passed
-returns-in_err-mark_inode-clause-passed g c =
-    read_error (g.D.Disk.state c.args.disk.now) (g.D.Disk.state c.loop-ino.disk) (g.D.Disk.state c.mark_inode.new.disk) c.loop-ino.invariant.reads c.from_residual.result c.from_residual.ensures.1
-    c.in_err-mark_inode.ensures.passed
+returns-in_err-mark_inode-clause-passed g c = read_error c.loop-ino.invariant.reads c.from_residual.result c.from_residual.ensures.1 c.in_err-mark_inode.ensures.passed
 
 pub returns-clause-passed : goal.returns-clause-passed
 returns-clause-passed g c = record { reads = c.loop-ino.invariant.reads; reason = tt }

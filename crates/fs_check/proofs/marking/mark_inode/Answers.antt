@@ -54,8 +54,7 @@ pub returns-then-not-mark_acls-clause-marked : goal.returns-then-not-mark_acls-c
 returns-then-not-mark_acls-clause-marked g c = λ f. absurd (false≢true f)
 
 pub returns-in_err-marked-clause-passed : goal.returns-in_err-marked-clause-passed
-returns-in_err-marked-clause-passed g c =
-    same_error (g.D.Disk.state c.args.disk.now) (g.D.Disk.state c.mark_levels.new.disk) c.from_residual.result c.from_residual.ensures.1 c.in_err-marked.ensures.passed
+returns-in_err-marked-clause-passed g c = same_error c.from_residual.result c.from_residual.ensures.1 c.in_err-marked.ensures.passed
 
 pub returns-clause-passed : goal.returns-clause-passed
 returns-clause-passed g c = record { reads = c.in_ok-marked.ensures.passed.reads; reason = tt }

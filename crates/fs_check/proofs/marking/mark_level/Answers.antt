@@ -156,9 +156,7 @@ returns-clause-marked g c = λ t n is x.
     (λ i ge. c.number_end-j-end.ensures.past m i (omega (arith, ge, c.loop-j-test.false))) (c.loop-j.invariant.marked n is x)
 
 pub returns-in_err-find-clause-passed : goal.returns-in_err-find-clause-passed
-returns-in_err-find-clause-passed g c =
-    read_error (g.D.Disk.state c.args.disk.now) (g.D.Disk.state c.loop-j.disk) (g.D.Disk.state c.find.new.disk) c.loop-j.invariant.reads
-    c.from_residual.result c.from_residual.ensures.1 c.in_err-find.ensures.passed
+returns-in_err-find-clause-passed g c = read_error c.loop-j.invariant.reads c.from_residual.result c.from_residual.ensures.1 c.in_err-find.ensures.passed
 
 pub returns-then-not-mark_listed-2-clause-passed : goal.returns-then-not-mark_listed-2-clause-passed
 returns-then-not-mark_listed-2-clause-passed g c = record { reads = reads_joined c.loop-j.invariant.reads c.in_ok-find.ensures.passed.reads; reason = tt }

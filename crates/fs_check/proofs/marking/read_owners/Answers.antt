@@ -18,21 +18,18 @@ returns-clause-owners g c =
 
 pub returns-in_err-owned-clause-passed : goal.returns-in_err-owned-clause-passed
 returns-in_err-owned-clause-passed g c =
-    let s0 = g.D.Disk.state c.args.disk.now in memory_error s0 s0 reads_nothing c.from_residual.result c.from_residual.ensures.1
+    memory_error reads_nothing c.from_residual.result c.from_residual.ensures.1
 
 pub returns-in_err-twice-clause-passed : goal.returns-in_err-twice-clause-passed
 returns-in_err-twice-clause-passed g c =
-    let s0 = g.D.Disk.state c.args.disk.now in
-    memory_error s0 s0 reads_nothing c.from_residual-in_err-twice.result c.from_residual-in_err-twice.ensures.1
+    memory_error reads_nothing c.from_residual-in_err-twice.result c.from_residual-in_err-twice.ensures.1
 
 -- no number is marked yet
 pub mark_all-requires-clause-none : goal.mark_all-requires-clause-none
 mark_all-requires-clause-none g c = clear_marked _ _ _ _ c.in_ok-owned.ensures c.in_ok-twice.ensures
 
 pub returns-in_err-mark_all-clause-passed : goal.returns-in_err-mark_all-clause-passed
-returns-in_err-mark_all-clause-passed g c =
-    let left = c.from_residual-in_err-mark_all in
-    same_error (g.D.Disk.state c.args.disk.now) (g.D.Disk.state c.mark_all.new.disk) left.result left.ensures.1 c.in_err-mark_all.ensures.passed
+returns-in_err-mark_all-clause-passed g c = same_error c.from_residual-in_err-mark_all.result c.from_residual-in_err-mark_all.ensures.1 c.in_err-mark_all.ensures.passed
 
 pub returns-clause-passed : goal.returns-clause-passed
 returns-clause-passed g c = record { reads = c.in_ok-mark_all.ensures.passed.reads; reason = tt }

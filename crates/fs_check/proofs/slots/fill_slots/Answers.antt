@@ -21,10 +21,7 @@ read_block_of-requires-clause-in_data g c =
     in_data_still (g.D.Disk.state c.args.disk.now) (g.D.Disk.state c.loop-k.disk) c.loop-k.invariant.reads c.args.inode.now c.args.opened.now.geometry c.requires.in_data
 
 pub returns-in_err-read_block_of-clause-passed : goal.returns-in_err-read_block_of-clause-passed
-returns-in_err-read_block_of-clause-passed g c =
-    let left = c.from_residual in
-    read_error (g.D.Disk.state c.args.disk.now) (g.D.Disk.state c.loop-k.disk) (g.D.Disk.state c.read_block_of.new.disk) c.loop-k.invariant.reads left.result left.ensures.1
-    c.in_err-read_block_of.ensures.passed
+returns-in_err-read_block_of-clause-passed g c = read_error c.loop-k.invariant.reads c.from_residual.result c.from_residual.ensures.1 c.in_err-read_block_of.ensures.passed
 
 pub returns-in_default-clause-test : goal.returns-in_default-clause-test
 returns-in_default-clause-test g c =

@@ -23,14 +23,10 @@ pub read_recovered-requires-clause-opened : goal.read_recovered-requires-clause-
 read_recovered-requires-clause-opened g c = opened_still c.in_ok-s.ensures.passed.reads c.requires.opened
 
 pub returns-in_err-s-clause-passed : goal.returns-in_err-s-clause-passed
-returns-in_err-s-clause-passed g c =
-    same_error (g.D.Disk.state c.args.disk.now) (g.D.Disk.state c.number.new.disk) c.from_residual.result c.from_residual.ensures.1 c.in_err-s.ensures.passed
+returns-in_err-s-clause-passed g c = same_error c.from_residual.result c.from_residual.ensures.1 c.in_err-s.ensures.passed
 
 pub returns-in_err-read_recovered-clause-passed : goal.returns-in_err-read_recovered-clause-passed
-returns-in_err-read_recovered-clause-passed g c =
-    let left = c.from_residual-in_err-read_recovered in
-    read_error (g.D.Disk.state c.args.disk.now) (g.D.Disk.state c.number.new.disk) (g.D.Disk.state c.read_recovered.new.disk) c.in_ok-s.ensures.passed.reads left.result left.ensures.1
-    c.in_err-read_recovered.ensures.passed
+returns-in_err-read_recovered-clause-passed g c = read_error c.in_ok-s.ensures.passed.reads c.from_residual-in_err-read_recovered.result c.from_residual-in_err-read_recovered.ensures.1 c.in_err-read_recovered.ensures.passed
 
 pub returns-clause-at_hand : goal.returns-clause-at_hand
 returns-clause-at_hand g c = c.in_ok-s.ensures.at_hand

@@ -77,14 +77,10 @@ pub returns-clause-at_hand : goal.returns-clause-at_hand
 returns-clause-at_hand g t c = hand_back c.in_ok-s.ensures.passed.reads c.load.new.self c.in_ok-load.ensures.at_hand
 
 pub returns-in_err-s-clause-passed : goal.returns-in_err-s-clause-passed
-returns-in_err-s-clause-passed g t c =
-    same_error (g.D.Disk.state c.args.disk.now) (g.D.Disk.state c.number-2.new.disk) c.from_residual.result c.from_residual.ensures.1 c.in_err-s.ensures.passed
+returns-in_err-s-clause-passed g t c = same_error c.from_residual.result c.from_residual.ensures.1 c.in_err-s.ensures.passed
 
 pub returns-in_err-load-clause-passed : goal.returns-in_err-load-clause-passed
-returns-in_err-load-clause-passed g t c =
-    let left = c.from_residual-in_err-load in
-    read_error (g.D.Disk.state c.args.disk.now) (g.D.Disk.state c.number-2.new.disk) (g.D.Disk.state c.load.new.disk) c.in_ok-s.ensures.passed.reads left.result left.ensures.1
-    c.in_err-load.ensures.passed
+returns-in_err-load-clause-passed g t c = read_error c.in_ok-s.ensures.passed.reads c.from_residual-in_err-load.result c.from_residual-in_err-load.ensures.1 c.in_err-load.ensures.passed
 
 pub returns-clause-passed : goal.returns-clause-passed
 returns-clause-passed g t c = record { reads = reads_joined c.in_ok-s.ensures.passed.reads c.in_ok-load.ensures.passed.reads; reason = tt }
