@@ -18,8 +18,11 @@ pub(crate) fn perform<S: Sectors>(
     requires ready { MayPerform asker.geometry (S.state s.old) procs.old }
     ensures { Performs asker.geometry asker.time asker.pid call.now (S.state s.old) (S.state s.new) procs.old procs.new result }
 {
-    match file_calls::perform(s, asker, procs, call) {
+    if let Some(result) = file_calls::perform(s, asker, procs, call) {
+        return result;
+    }
+    match name_calls::perform(s, asker, procs, call) {
         Some(result) => result,
-        None => name_calls::perform(s, asker, procs, call).unwrap(),
+        None => unreachable!(),
     }
 }

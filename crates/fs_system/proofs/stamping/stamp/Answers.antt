@@ -12,6 +12,7 @@ use Rattle.fs_system.specs.Stamping.{absent}
 use Rattle.fs_system.proofs.Stamped.{none_past, none_free, here, stamp_absent, same_stamped, no_times, none_given, saved_stamped}
 use Rattle.fs_system.proofs.StampedNodes.{given_fits, stamps_given}
 use Rattle.fs_system.proofs.stamping.stamp.Goals.{then-not-keeps_times-via-then-not-keeps_times, then-not-keeps_times-via-else-not-keeps_times+then-gives_none}
+use Rattle.sector_txn.proofs.TransactionRuns.{store_joined, store_same}
 use Rattle.fs_system.proofs.stamping.stamp.Goals as goal
 
 pub returns-then-ino-geometry-clause-each : goal.returns-then-ino-geometry-clause-each
@@ -73,3 +74,21 @@ returns-clause-each g c =
     (saved.saved ∙ given) saved.bytes saved.acls c.stamps_in-2.result
     (c.stamps_in-2.ensures
     ∙ stamps_given (inode_at p first n) c.with_given-given.result (stamped c.args.atime c.args.mtime c.args.ctime (stamps_in (inode_at p first n))) given)
+
+pub returns-then-ino-geometry-clause-store : goal.returns-then-ino-geometry-clause-store
+returns-then-ino-geometry-clause-store g c = store_same
+
+pub returns-then-eq-clause-store : goal.returns-then-eq-clause-store
+returns-then-eq-clause-store g c = c.in-Ok.ensures.same.store
+
+pub returns-then-not-keeps_times-clause-store : goal.returns-then-not-keeps_times-clause-store
+returns-then-not-keeps_times-clause-store g c = c.in-Ok.ensures.same.store
+
+pub returns-then-not-keeps_times-clause-superblock : goal.returns-then-not-keeps_times-clause-superblock
+returns-then-not-keeps_times-clause-superblock g c = c.in-Ok.ensures.same.sectors 0
+
+pub returns-clause-store : goal.returns-clause-store
+returns-clause-store g c = store_joined c.in-Ok.ensures.same.store c.in-Ok-save.ensures.store
+
+pub returns-clause-superblock : goal.returns-clause-superblock
+returns-clause-superblock g c = c.in-Ok-save.ensures.touches.super ∙ c.in-Ok.ensures.same.sectors 0

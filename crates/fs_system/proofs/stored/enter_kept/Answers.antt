@@ -33,3 +33,6 @@ returns g c = record {
       c.drop_delta.result dropped.disk dropped.map s r c.args.procs.now refl)
       said.table answered;
 }
+
+pub drop_delta-requires : goal.drop_delta-requires
+drop_delta-requires g c = record { known = c.begin-txn.ensures.known c.enter-done.new.s c.enter-done.ensures.same.store }

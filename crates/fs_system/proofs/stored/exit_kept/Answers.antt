@@ -70,3 +70,9 @@ returns-in-Err-Failed g c = record {
             (why_exit_failed old new s pid why refused),
       );
 }
+
+pub keep-requires : goal.keep-requires
+keep-requires g c = record { known = c.begin-txn.ensures.known c.exit.new.s c.in-Ok.ensures.store }
+
+pub drop_delta-requires : goal.drop_delta-requires
+drop_delta-requires g c = record { known = c.begin-txn.ensures.known c.exit.new.s c.in-Err-Failed.ensures.store }

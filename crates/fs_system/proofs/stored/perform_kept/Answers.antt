@@ -61,3 +61,9 @@ returns-in-Err g c = record {
             (why_failed old new s c.args.pid call why refused),
       );
 }
+
+pub keep-requires : goal.keep-requires
+keep-requires g c = record { known = c.begin-txn.ensures.known c.perform.new.s c.in-Ok.ensures.store }
+
+pub drop_delta-requires : goal.drop_delta-requires
+drop_delta-requires g c = record { known = c.begin-txn.ensures.known c.perform.new.s c.in-Err.ensures.store }

@@ -69,3 +69,9 @@ returns-in-Err g c = record {
             (why_not_stamped old new s c.args.ino c.args.atime c.args.mtime c.args.ctime why refused),
       );
 }
+
+pub keep-requires : goal.keep-requires
+keep-requires g c = record { known = c.begin-txn.ensures.known c.stamp.new.s c.in-Ok.ensures.store }
+
+pub drop_delta-requires : goal.drop_delta-requires
+drop_delta-requires g c = record { known = c.begin-txn.ensures.known c.stamp.new.s c.in-Err.ensures.store }
