@@ -6,6 +6,3 @@ returns-in_err-read_recovered-clause-passed g c = same_error c.from_residual.res
 
 pub returns-in_err-is_default_acl-clause-passed : goal.returns-in_err-is_default_acl-clause-passed
 returns-in_err-is_default_acl-clause-passed g c = memory_error c.in_ok-read_recovered.ensures.passed.reads c.from_residual-in_err-is_default_acl.result c.from_residual-in_err-is_default_acl.ensures.1
-
-pub returns-clause-passed : goal.returns-clause-passed
-returns-clause-passed g c = record { reads = c.in_ok-read_recovered.ensures.passed.reads; reason = tt }
