@@ -21,7 +21,7 @@ use Rattle.path_walk.proofs.Kept.{kept_back, sound_kept, on_err, if_err, failed_
 use Rattle.call_parts.specs.Performing.{MayPerform}
 use Rattle.call_parts.proofs.Calling.{state_kept}
 use Rattle.call_parts.proofs.Removed.{taken_after, taken_joined}
-use Rattle.call_parts.specs.Altering.{AltersDisk, Alters}
+use Rattle.call_parts.specs.Altering.{AltersDisk, AltersTransaction}
 
 module _ {A : Type 0} {p : Geometry} {more : ℕ} {alteration : A → SectorMap → SectorMap → Type 0} where
   pub fails : {old new : TxnState} {e : Refusal} → SameStore old new → FailsToRead old.disk new.disk e → AltersDisk p more alteration old new (Err e)
@@ -71,12 +71,12 @@ module _ {A : Type 0} {p : Geometry} {more : ℕ} {alteration : A → SectorMap 
 
 module _ {change : TxnState → TxnState → Type 0} where
   pub not_changed : {old new : TxnState} (r : Result (Unit {0}) Refusal) (e : Refusal) → IsErr r × IsErrAnd r (λ z. z ≡ e) → SameStore old new → FailsToRead old.disk new.disk e
-      → Alters change old new r
+      → AltersTransaction change old new r
   not_changed {old} {new} r e err store fault =
       record { store = store; made = on_err (change old new) r err.0; fault = failed_with r e (FailsToRead old.disk new.disk) err.0 err.1 fault }
 
   pub not_changed_later : {old mid new : TxnState} (r : Result (Unit {0}) Refusal) (e : Refusal) → IsErr r × IsErrAnd r (λ z. z ≡ e) → SameStore old mid → SameStore mid new
-      → FailsToRead mid.disk new.disk e → Alters change old new r
+      → FailsToRead mid.disk new.disk e → AltersTransaction change old new r
   not_changed_later {old} {mid} {new} r e err first then fault =
       not_changed r e err (store_joined first then) (fault.0, failed_later old.disk mid.disk new.disk first.reads.failures fault.1)
 

@@ -1,7 +1,7 @@
 -- What a function that changes what the disk holds asks of it, and what it promises.
 --     MayAlter        a sound disk, to which so many sectors may be put
 --     AltersDisk        it is sound then, and so many were put at most; or it has failed
---     Alters        it is altered so, or has failed
+--     AltersTransaction        it is altered so, or has failed
 --     HoldsChange        it holds the tree with this change
 use Rattle.std.specs.Prelude.{◌≡◌, ℕ, Result, IfOk, OnOk, IfErr}
 use Rattle.fs_cred.specs.declared.refusal.Refusal.{Refusal}
@@ -30,7 +30,7 @@ pub record AltersDisk {A : Type 0} (p : Geometry) (more : ℕ) (alteration : A �
   pub fault : IfErr result (FailsToRead old.disk new.disk)
 
 -- The transaction has changed so; at `Err` the disk has failed.
-pub record Alters (change : TxnState → TxnState → Type 0) (old new : TxnState) (result : Result (Unit {0}) Refusal) : Type 0 where
+pub record AltersTransaction (change : TxnState → TxnState → Type 0) (old new : TxnState) (result : Result (Unit {0}) Refusal) : Type 0 where
   pub store : SameStore old new
   pub made : OnOk result (change old new)
   pub fault : IfErr result (FailsToRead old.disk new.disk)

@@ -1,7 +1,7 @@
 -- What a function that asks the disk asks of it, and what it promises. Nothing changes.
 --     checked        what checks answer
 --     ShowsTree, HasState, ShowsInode        a sound disk, and a tree, a state or an inode of it that is so
---     Tells        what is answered
+--     TellsAnswer        what is answered
 --     TellsTree, TellsOf        what is answered of each tree, or of each other thing, that is so
 --     ReadsInode        what is read of an inode
 --     FoundThere        what was found is there
@@ -50,7 +50,7 @@ pub record ShowsInode {B : Type 0} (p : Geometry) (txn : TxnState) (v : Inode) (
 
 -- ---- what is promised
 
-pub record Tells {A : Type 0} (answer : Result A Refusal) (old new : TxnState) (result : Result A Refusal) : Type 0 where
+pub record TellsAnswer {A : Type 0} (answer : Result A Refusal) (old new : TxnState) (result : Result A Refusal) : Type 0 where
   pub each : IsAnswered old.disk new.disk answer result
   pub same : IsUnchanged old new
 

@@ -9,7 +9,7 @@ ghost use Rattle.bit_alloc.specs.Bitmaps.{IsNumber};
 ghost use Rattle.bit_alloc.specs.Inodes.{IsSound};
 ghost use Rattle.bit_alloc.specs.Room.{HasSpare};
 ghost use Rattle.path_walk.specs.Answers.{FailsToRead};
-ghost use Rattle.call_parts.specs.Altering.{MayAlter, Alters};
+ghost use Rattle.call_parts.specs.Altering.{MayAlter, AltersTransaction};
 ghost use Rattle.call_parts.specs.Dropping.{Drops, LeavesInode, Counts};
 ghost use Rattle.call_parts.specs.UsedInode.{IsUsedInode};
 
@@ -26,7 +26,7 @@ pub fn drop_node<S: Sectors>(s: &mut S, geometry: Geometry, ino: u32) -> Result<
     requires ready { MayAlter geometry 1 (S.state s.old) }
     requires number { IsNumber geometry Inodes ino }
     requires used { (inode_at geometry (S.state s.old).sectors ino).kind ≢ Kind.Free }
-    ensures { Alters (Drops geometry ino) (S.state s.old) (S.state s.new) result }
+    ensures { AltersTransaction (Drops geometry ino) (S.state s.old) (S.state s.new) result }
 {
     match free_all(s, geometry, ino) {
         Ok(()) => Ok(()),
@@ -73,7 +73,7 @@ pub fn set_names<S: Sectors>(
 ) -> Result<(), Refusal>
     requires loaded { IsUsedInode geometry (S.state s.old) ino inode.now }
     requires spare { HasSpare geometry 1 (S.state s.old) }
-    ensures { Alters (Counts geometry ino names) (S.state s.old) (S.state s.new) result }
+    ensures { AltersTransaction (Counts geometry ino names) (S.state s.old) (S.state s.new) result }
 {
     let counted = Inode { names, ..*inode };
     match save(s, geometry, ino, &counted) {

@@ -13,7 +13,7 @@ ghost use Rattle.path_walk.specs.HeldTrees.{HoldsTree, IsThere};
 ghost use Rattle.path_walk.specs.SoundInodes.{HasSoundInodes};
 ghost use Rattle.fs_model.specs.Stands.{room_of};
 ghost use Rattle.path_walk.specs.Walked.{walk_of};
-ghost use Rattle.call_parts.specs.Telling.{Tells};
+ghost use Rattle.call_parts.specs.Telling.{TellsAnswer};
 
 use crate::caller::Caller;
 use fs_cred::{Errno, Refusal};
@@ -55,7 +55,7 @@ pub fn inode_found<S: Sectors>(
 ) -> Result<(u32, Inode), Refusal>
     requires sound { IsSound geometry (S.state s.old) }
     requires below { (n : ℕ) → found.now.ino ≡ Some n → n < geometry.inodes }
-    ensures { Tells (refused_or (must_be_there found.now)
+    ensures { TellsAnswer (refused_or (must_be_there found.now)
         (Ok (found_ino found.now, inode_at geometry (S.state s.old).sectors (found_ino found.now)))) (S.state s.old) (S.state s.new) result }
 {
     let Some(ino) = found.ino else {

@@ -13,7 +13,7 @@ ghost use Rattle.path_walk.specs.Answers.{IsAnswered};
 ghost use Rattle.path_walk.specs.HeldTrees.{HoldsTree, IsThere};
 ghost use Rattle.path_walk.specs.SoundInodes.{HasSoundInodes};
 ghost use Rattle.fs_model.specs.Stands.{room_of};
-ghost use Rattle.call_parts.specs.Altering.{MayAlter, AltersDisk, Alters};
+ghost use Rattle.call_parts.specs.Altering.{MayAlter, AltersDisk, AltersTransaction};
 ghost use Rattle.call_parts.specs.Makings.{room_asked};
 ghost use Rattle.call_parts.specs.NewNodes.{HasName, MayBeNamed, NamesInode};
 ghost use Rattle.call_parts.specs.Telling.{checked};
@@ -125,7 +125,7 @@ pub fn remove_name<S: Sectors>(
     requires ready { MayAlter geometry 5 (S.state s.old) }
     requires below { dir_ino < geometry.inodes }
     requires named { HasName geometry (S.state s.old).sectors dir_ino name.now }
-    ensures { Alters (RemovesName geometry dir_ino name.now) (S.state s.old) (S.state s.new) result }
+    ensures { AltersTransaction (RemovesName geometry dir_ino name.now) (S.state s.old) (S.state s.new) result }
 {
     let mut directory = load_inode(s, geometry, dir_ino)?;
     match remove(s, geometry, dir_ino, &mut directory, name) {

@@ -7,8 +7,8 @@ ghost use Rattle.bit_alloc.specs.declared.bitmap.Bitmap.TheVariants.{Inodes};
 ghost use Rattle.fs_cred.specs.declared.errno.Errno.TheVariants.{ENOSPC};
 ghost use Rattle.fs_model.specs.Demands.{refuse};
 ghost use Rattle.fs_model.specs.Limits.{least_free, free_for};
-ghost use Rattle.call_parts.specs.Space.{AsksFor};
-ghost use Rattle.call_parts.specs.Telling.{checked, Tells};
+ghost use Rattle.call_parts.specs.Space.{AsksForSpace};
+ghost use Rattle.call_parts.specs.Telling.{checked, TellsAnswer};
 
 use bit_alloc::{Bitmap, has_free};
 use fs_cred::{Errno, Refusal};
@@ -32,7 +32,7 @@ fn ask_for<S: Sectors>(
     count: u32,
 ) -> Result<(), Refusal>
     requires { HasBitmaps geometry (S.state s.old) }
-    ensures { AsksFor count (free_numbers geometry map (S.state s.old).sectors) (S.state s.old) (S.state s.new) result }
+    ensures { AsksForSpace count (free_numbers geometry map (S.state s.old).sectors) (S.state s.old) (S.state s.new) result }
 {
     match has_free(s, geometry, map, count) {
         Ok(true) => Ok(()),
@@ -44,7 +44,7 @@ fn ask_for<S: Sectors>(
 /// Asks for free data sectors, before a call that may take some. ENOSPC: fewer than 16 are free.
 pub fn ask_for_sectors<S: Sectors>(s: &mut S, geometry: Geometry) -> Result<(), Refusal>
     requires { HasBitmaps geometry (S.state s.old) }
-    ensures { AsksFor least_free (free_sectors geometry (S.state s.old).sectors) (S.state s.old) (S.state s.new) result }
+    ensures { AsksForSpace least_free (free_sectors geometry (S.state s.old).sectors) (S.state s.old) (S.state s.new) result }
 {
     ask_for(s, geometry, Bitmap::Blocks, LEAST_FREE)
 }
@@ -60,7 +60,7 @@ fn needed_for(len: usize) -> u32
 /// bytes, fewer than 40.
 pub fn ask_to_write<S: Sectors>(s: &mut S, geometry: Geometry, len: usize) -> Result<(), Refusal>
     requires { HasBitmaps geometry (S.state s.old) }
-    ensures { AsksFor (free_for len) (free_sectors geometry (S.state s.old).sectors) (S.state s.old) (S.state s.new) result }
+    ensures { AsksForSpace (free_for len) (free_sectors geometry (S.state s.old).sectors) (S.state s.old) (S.state s.new) result }
 {
     ask_for(s, geometry, Bitmap::Blocks, needed_for(len))
 }
@@ -68,7 +68,7 @@ pub fn ask_to_write<S: Sectors>(s: &mut S, geometry: Geometry, len: usize) -> Re
 /// Asks for a free inode. ENOSPC: none is free.
 pub(crate) fn ask_for_inode<S: Sectors>(s: &mut S, geometry: Geometry) -> Result<(), Refusal>
     requires { HasBitmaps geometry (S.state s.old) }
-    ensures { Tells (checked (refuse ENOSPC (free_numbers geometry Inodes (S.state s.old).sectors == 0)))
+    ensures { TellsAnswer (checked (refuse ENOSPC (free_numbers geometry Inodes (S.state s.old).sectors == 0)))
         (S.state s.old) (S.state s.new) result }
 {
     ask_for(s, geometry, Bitmap::Inodes, 1)

@@ -3,7 +3,7 @@
 ghost use Rattle.std.specs.Prelude.{◌≡◌, ◌<◌};
 ghost use Rattle.fs_model.specs.StoredStamps.{stamps_in};
 ghost use Rattle.fs_model.specs.TreeChanges.{touch_at};
-ghost use Rattle.call_parts.specs.Altering.{MayAlter, AltersDisk, Alters};
+ghost use Rattle.call_parts.specs.Altering.{MayAlter, AltersDisk, AltersTransaction};
 ghost use Rattle.call_parts.specs.Times.{with_times, MovesTime, MayMoveTimes, MovesTimes};
 
 use fs_cred::{Errno, Refusal};
@@ -69,7 +69,7 @@ pub fn touch<S: Sectors>(
     touches: &[(u32, Touch)],
 ) -> Result<(), Refusal>
     requires { MayMoveTimes geometry touches.now (S.state s.old) }
-    ensures { Alters (MovesTimes geometry now touches.now) (S.state s.old) (S.state s.new) result }
+    ensures { AltersTransaction (MovesTimes geometry now touches.now) (S.state s.old) (S.state s.new) result }
 {
     if !geometry.version.keeps_times() {
         return Ok(());

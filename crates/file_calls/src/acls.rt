@@ -17,7 +17,7 @@ ghost use Rattle.call_parts.specs.Altering.{MayAlter, AltersDisk};
 ghost use Rattle.call_parts.specs.Asked.{holder_asked, acl_space_asked};
 ghost use Rattle.call_parts.specs.Given.{SavesAcl, SavesDefaultAcl, SavesOf, HasBody};
 ghost use Rattle.call_parts.specs.Performing.{IsReadyFor, PerformsFor};
-ghost use Rattle.call_parts.specs.Telling.{checked, ShowsInode, Tells, ReadsInode};
+ghost use Rattle.call_parts.specs.Telling.{checked, ShowsInode, TellsAnswer, ReadsInode};
 ghost use Rattle.call_parts.specs.UsedInode.{IsUsedInode};
 
 use call_parts::{CallResult, Caller, ask_for_sectors, default_of, reach, reach_owned, touch};
@@ -151,7 +151,7 @@ fn ask_for_space<S: Sectors>(
     acl: Option<&Acl>,
 ) -> Result<(), Refusal>
     requires { HasBitmaps geometry (S.state s.old) }
-    ensures { Tells (checked (first_of (acl_space_asked which (option_copied acl.entry) (free_sectors geometry (S.state s.old).sectors))))
+    ensures { TellsAnswer (checked (first_of (acl_space_asked which (option_copied acl.entry) (free_sectors geometry (S.state s.old).sectors))))
         (S.state s.old) (S.state s.new) result }
 {
     if !takes_sector(which, acl) {

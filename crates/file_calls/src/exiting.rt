@@ -7,7 +7,7 @@ ghost use Rattle.fs_model.specs.Processes.{Descriptor as OpenFile};
 ghost use Rattle.open_files.specs.Tables.{open_in};
 ghost use Rattle.bit_alloc.specs.declared.bitmap.Bitmap.TheVariants.{Inodes};
 ghost use Rattle.bit_alloc.specs.Bitmaps.{IsNumber};
-ghost use Rattle.call_parts.specs.Altering.{MayAlter, Alters};
+ghost use Rattle.call_parts.specs.Altering.{MayAlter, AltersTransaction};
 ghost use Rattle.call_parts.specs.Performing.{MayPerform};
 ghost use Rattle.file_calls.specs.Exiting.{Exits, LeavesAt, LeavesAll};
 
@@ -29,7 +29,7 @@ fn leave_descriptor<S: Sectors>(
     requires ready { MayAlter geometry 1 (S.state s.old) }
     requires found { IsSome (get nat_cmp procs.now pid) }
     requires number { (d : OpenFile) → open_in procs.now pid fd ≡ Ok d → IsNumber geometry Inodes d.ino }
-    ensures { Alters (LeavesAt geometry procs.now pid fd) (S.state s.old) (S.state s.new) result }
+    ensures { AltersTransaction (LeavesAt geometry procs.now pid fd) (S.state s.old) (S.state s.new) result }
 {
     let descriptor = match procs.get(pid, fd) {
         Ok(descriptor) => descriptor,
@@ -50,7 +50,7 @@ fn leave_all<S: Sectors>(
 ) -> Result<(), Refusal>
     requires ready { MayPerform geometry (S.state s.old) procs.now }
     requires found { IsSome (get nat_cmp procs.now pid) }
-    ensures { Alters (LeavesAll geometry procs.now pid) (S.state s.old) (S.state s.new) result }
+    ensures { AltersTransaction (LeavesAll geometry procs.now pid) (S.state s.old) (S.state s.new) result }
 {
     for fd in 0..MAX_DESCRIPTORS {
         leave_descriptor(s, geometry, procs, pid, fd)?;

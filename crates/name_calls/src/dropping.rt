@@ -2,7 +2,7 @@
 
 ghost use Rattle.std.specs.Prelude.{◌≡◌};
 ghost use Rattle.fs_model.specs.Processes.{is_open};
-ghost use Rattle.call_parts.specs.Altering.{Alters};
+ghost use Rattle.call_parts.specs.Altering.{AltersTransaction};
 ghost use Rattle.name_calls.specs.Dropping.{MayLoseName, LosesName, stays_with};
 
 use call_parts::{drop_node, set_names};
@@ -28,7 +28,7 @@ pub(crate) fn lose_name<S: Sectors>(
     inode: &Inode,
 ) -> Result<(), Refusal>
     requires { MayLoseName geometry (S.state s.old) ino inode.now }
-    ensures { Alters (LosesName geometry ino (is_open procs.now ino)) (S.state s.old) (S.state s.new) result }
+    ensures { AltersTransaction (LosesName geometry ino (is_open procs.now ino)) (S.state s.old) (S.state s.new) result }
 {
     let names = inode.names - 1;
     let stays = stays(procs, ino, inode.kind, names);

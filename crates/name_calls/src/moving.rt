@@ -8,7 +8,7 @@ ghost use Rattle.call_parts.specs.Performing.{IsReadyFor};
 ghost use Rattle.call_parts.specs.NewNodes.{NamesInode};
 ghost use Rattle.call_parts.specs.UsedInode.{IsUsedInode};
 ghost use Rattle.call_parts.specs.Times.{MayMoveTimes, MovesTimes};
-ghost use Rattle.call_parts.specs.Altering.{MayAlter, AltersDisk, Alters, HoldsChange};
+ghost use Rattle.call_parts.specs.Altering.{MayAlter, AltersDisk, AltersTransaction, HoldsChange};
 ghost use Rattle.name_calls.specs.Moving.{MayMoveTo, MayLead, MovesEntryTo, ParentFollows, renamed_touches};
 ghost use Rattle.name_calls.specs.Renaming.{inode_there};
 
@@ -168,7 +168,7 @@ pub(crate) fn touch_moved<S: Sectors>(
 ) -> Result<(), Refusal>
     requires { MayMoveTimes caller.now.geometry
         (renamed_touches walked.now.first.dir_ino walked.now.second.dir_ino ino walked.now.second.ino) (S.state s.old) }
-    ensures { Alters (MovesTimes caller.now.geometry caller.now.time
+    ensures { AltersTransaction (MovesTimes caller.now.geometry caller.now.time
         (renamed_touches walked.now.first.dir_ino walked.now.second.dir_ino ino walked.now.second.ino)) (S.state s.old) (S.state s.new) result }
 {
     let dir_ino = walked.first.dir_ino;
