@@ -151,7 +151,8 @@ fn ask_for_space<S: Sectors>(
     acl: Option<&Acl>,
 ) -> Result<(), Refusal>
     requires { HasBitmaps geometry (S.state s.old) }
-    ensures { TellsAnswer (checked (first_of (acl_space_asked which (option_copied acl.entry) (free_sectors geometry (S.state s.old).sectors))))
+    ensures { TellsAnswer
+        (checked (first_of (acl_space_asked which (option_copied acl.entry) (free_sectors geometry (S.state s.old).sectors))))
         (S.state s.old) (S.state s.new) result }
 {
     if !takes_sector(which, acl) {
@@ -172,7 +173,8 @@ fn give_default_acl<S: Sectors>(
     requires loaded { IsUsedInode geometry (S.state s.old) ino inode.now }
     requires spare { HasSpare geometry 2 (S.state s.old) }
     requires room { acl_takes inode.now.default_acl (option_copied acl) ≤ free_sectors geometry (S.state s.old).sectors }
-    ensures { AltersDisk geometry 2 (λ done. SavesDefaultAcl geometry ino (option_copied acl.entry)) (S.state s.old) (S.state s.new) result }
+    ensures { AltersDisk geometry 2 (λ done. SavesDefaultAcl geometry ino (option_copied acl.entry))
+        (S.state s.old) (S.state s.new) result }
 {
     match save_default_acl(s, geometry, ino, inode, acl) {
         Ok(()) => Ok(()),
