@@ -68,12 +68,16 @@ fn serve_spoken<P: Performer, K: Kernel, W: Witness>(
     };
     let who = performer.who_counts(spoken.node, spoken.uid, &spoken.operation);
     let caller = learn(alloc, kernel, spoken, who);
-    let asker = Asker {
-        caller,
-        needs_nobody: who.is_nobody(),
-        time: now,
-    };
-    let response = answer(alloc, performer, spoken, &asker);
+    let response = answer(
+        alloc,
+        performer,
+        spoken,
+        &Asker {
+            caller,
+            needs_nobody: who.is_nobody(),
+            time: now,
+        },
+    );
     witness.see(spoken, &response, now);
     let _taken = tell(kernel, room, spoken.unique, &response)?;
     Ok(())

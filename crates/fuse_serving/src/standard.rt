@@ -7,7 +7,7 @@ use crate::status::caller_of_status;
 use bitflags::Flags;
 use fs_cred::Caps;
 use fuse_protocol::Time;
-use std::alloc::Global;
+use std::alloc::{AllocError, Global};
 use std::fs;
 use std::io::{self, ErrorKind, Read, Seek, SeekFrom, Write};
 use std::os::unix::fs::FileExt;
@@ -89,26 +89,43 @@ fn read_all<F: FileExt + Read + Seek>(file: &mut F, room: &mut Vec<u8>) -> io::R
 }
 
 impl<R: Files<File: FileExt> + AllocGlobal, I, O> Standard<R, I, O> {
+    // What is asked of a process is its file with this name.
+    fn name_file(&mut self, pid: u32, name: &str) -> Result<(), AllocError> {
+        self.path.clear();
+        write!(self.path, "/proc/{pid}/{name}")
+    }
+
+    // Whether a user namespace is that of this process.
+    fn is_own(&mut self, users: &str) -> io::Result<bool> {
+        if self.own_users.is_none() {
+            self.own_users = Some(fs::read_link(&self.rt, "/proc/self/ns/user")?);
+        }
+        match &self.own_users {
+            Some(own) => Ok(own.as_str() == users),
+            None => Ok(false),
+        }
+    }
+
     // Whether a process is in the user namespace of this one: user_namespaces(7).
     fn shares_users(&mut self, pid: u32) -> io::Result<bool> {
-        self.path.clear();
-        write!(self.path, "/proc/{pid}/ns/user")?;
+        self.name_file(pid, "ns/user")?;
         let theirs = fs::read_link(&self.rt, self.path.as_str())?;
-        let own = match self.own_users.take() {
-            Some(own) => own,
-            None => fs::read_link(&self.rt, "/proc/self/ns/user")?,
-        };
-        let same = theirs.as_str() == own.as_str();
-        self.own_users = Some(own);
-        Ok(same)
+        self.is_own(theirs.as_str())
+    }
+
+    // The capabilities that a process holds in its user namespace count here only where that is this one's.
+    fn caps_here(&mut self, pid: u32, held: Caps) -> io::Result<Caps> {
+        if held.is_empty() || self.shares_users(pid)? {
+            return Ok(held);
+        }
+        Ok(Caps::empty())
     }
 
     // Opens the status of a process, and reads it.
     fn read_opened(&mut self, pid: u32) -> io::Result<usize>
         ensures { IfOk result (λ size. size ≤ length self.new.room.items) }
     {
-        self.path.clear();
-        write!(self.path, "/proc/{pid}/status")?;
+        self.name_file(pid, "status")?;
         let mut status = fs::open(&self.rt, self.path.as_str())?;
         let size = read_all(&mut status, &mut self.room)?;
         self.last = Some(Seen { pid, status });
@@ -131,16 +148,13 @@ impl<R: Files<File: FileExt> + AllocGlobal, I, O> Standard<R, I, O> {
         self.read_opened(pid)
     }
 
-    // What /proc shows of a process that asks as this user and this group. Capabilities are those of its user namespace, and count
-    // here only where that is this one's.
+    // What /proc shows of a process that asks as this user and this group.
     fn look_up(&mut self, pid: u32, uid: u32, gid: u32) -> io::Result<Caller> {
         let size = self.read_status(pid)?;
         let text = &self.room[..size];
-        let mut caller = caller_of_status(self.rt.alloc(), text, uid, gid)?;
-        if !caller.caps.is_empty() && !self.shares_users(pid)? {
-            caller.caps = Caps::empty();
-        }
-        Ok(caller)
+        let Caller { groups, caps } = caller_of_status(self.rt.alloc(), text, uid, gid)?;
+        let caps = self.caps_here(pid, caps)?;
+        Ok(Caller { groups, caps })
     }
 }
 

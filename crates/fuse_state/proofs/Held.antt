@@ -1,16 +1,18 @@
 -- Names that are found by their dentries and by their inodes.
 --     names_rise, name_is, known_key        the names without their keys
+--     put_back        a dentry that was lent stands where it stood
 --     held_dentries, nth_dentry        those that lead to an inode
 --     IsHeld, held, none_held, held_at, none_at        one of them, by its place
 --     IsFound, found_at, missing, no_gap, no_place        what a search in a group finds
 --     has_room        a group has room for one more
 --     added_indexed, added_names, removed_indexed, removed_names        a name that comes, and one that goes
-use Rattle.std.specs.Prelude.{◌≡◌, ◌≢◌, ℕ, ◌+◌, ◌<◌, ◌≤◌, ◌^◌, ◌==◌, Bool, true, false, cond, List, [], ◌∷◌, length, map, get_or, slice_get, refl, Option, None, Some, option_map, count_by, is_some}
+use Rattle.std.specs.Prelude.{◌≡◌, ◌≢◌, ℕ, ◌+◌, ◌<◌, ◌≤◌, ◌^◌, ◌==◌, Bool, true, false, cond, List, [], ◌∷◌, length, map, get_or, set, slice_get, refl, Option, None, Some, option_map, count_by, is_some}
 use Rattle.std.proofs.Common.{sym, ap, subst, ◌∙◌, arith}
 use Rattle.std.specs.Ordering.{nat_cmp}
 use Rattle.std.specs.List.{filter, insert, remove}
-use Rattle.std.proofs.lemmas.List.{length-map}
+use Rattle.std.proofs.lemmas.List.{length-map, set-get_or}
 use Rattle.std.proofs.lemmas.Option.{slice_get-map, slice_get-get_or, slice_get_within, get_or_from_slice_get}
+use Rattle.slab.specs.Slab.{Slab, with_value, get as slot_at}
 use Rattle.fs_layout.specs.Maps.{get, with_entry, without, IsMap}
 use Rattle.fuse_state.specs.declared.dentry.Found.{Found}
 use Rattle.fuse_state.specs.declared.dentry.Dentry.{Dentry}
@@ -45,6 +47,12 @@ module _ (s : List (Option Found)) where
       go : (r : Option (ℕ × ℕ)) → get dentry_cmp (keyed_names s) p ≡ r → option_map (λ x. x.1) r ≡ Some n → (k : ℕ) × (get dentry_cmp (keyed_names s) p ≡ Some (k, n))
       go None was has = absurd (cc)
       go (Some x) was has = (x.0, was ∙ ap (λ m. Some (x.0, m)) (same_some has))
+
+pub put_back : (s : Slab Found) (key : ℕ) (f : Found) (p : Dentry) → slot_at s key ≡ Some f → p ≡ f.dentry
+    → with_value s key (record f { dentry = p }) ≡ s
+put_back s key f p here same =
+    let P : Option Found → Type 0 = λ slot. set s.slots key slot ≡ s.slots in
+    ap (λ (q : Dentry). with_value s key (record f { dentry = q })) same ∙ ap (λ (l : List (Option Found)). record s { slots = l }) (subst P here (set-get_or s.slots key None))
 
 -- ---- the names of an inode
 
