@@ -1,13 +1,11 @@
 //! Files that are to lose their bytes as they are opened, at a machine that is played: what it is asked for, and what it cuts.
-ghost use Rattle.std.specs.Prelude.{⊤};
 
-use crate::tests::sessions::{asked, begun};
+use crate::tests::sessions::{Player, answer_to};
 use bitflags::Flags as _;
-use fs_cred::{Cred, CredFault, Errno, Refusal};
-use fs_model::{Call, Event, FileType, Flags, Reply, Status};
+use fs_cred::{CredFault, Errno, Refusal};
+use fs_model::{Call, FileType, Flags, Reply, Status};
 use fuse_plans::Response;
 use fuse_protocol::{OpenFlags, Operation};
-use fuse_steps::Machine;
 use std::alloc::Global;
 use std::mem;
 use std::test::Fail;
@@ -20,13 +18,12 @@ type Heard = (Option<Ways>, u32, u32);
 
 // A machine whose one object is a file. It grants these ways to open it.
 #[derive(Drop)]
-struct Played {
+struct File {
     granted: Ways,
-    processes: usize,
     heard: Heard,
 }
 
-impl Played {
+impl File {
     fn open(&mut self, flags: Flags) -> Reply {
         let (_, opens, cuts) = self.heard;
         self.heard = (
@@ -48,26 +45,14 @@ impl Played {
     }
 }
 
-impl Machine for Played {
-    // Nothing is claimed of what is served.
-    ghost Serves = { λ _ _ _ _. ⊤ };
-
-    fn serve(&mut self, _event: &Event) -> Reply {
-        Reply::Done
-    }
-
-    fn call(&mut self, _pid: usize, call: &Call) -> Reply {
+impl Player for File {
+    fn reply_to(&mut self, call: &Call) -> Reply {
         match call {
             Call::Open(_, flags, _) => self.open(*flags),
             Call::Truncate(..) | Call::Ftruncate(..) => self.cut(),
             Call::Fstat(_) => Reply::Shown(STATUS),
             _ => Reply::Done,
         }
-    }
-
-    fn spawn(&mut self, _cred: &Cred) -> Reply {
-        self.processes = self.processes.saturating_add(1);
-        Reply::Pid(self.processes)
     }
 }
 
@@ -95,17 +80,13 @@ fn number_of(response: Response) -> u8 {
 
 // The answer to an OPEN with these flags, and what the machine heard.
 fn answered(alloc: Global, granted: Ways, flags: u32) -> Result<(u8, Heard), CredFault> {
-    let machine = Played {
+    let file = File {
         granted,
-        processes: 0,
         heard: (None, 0, 0),
     };
-    let mut session = begun(alloc, machine, false)?;
-    let user = asked(1, false, Cred::new(alloc, 1000, 100, &[])?);
     let open = Operation::Open(OpenFlags::from_bits_retain(flags));
-    let response = session.perform(user, None, &open)?;
-    let machine = session.into_machine();
-    Ok((number_of(response), machine.heard))
+    let (response, file) = answer_to(alloc, file, false, (1000, 100), &open)?;
+    Ok((number_of(response), file.heard))
 }
 
 const READS: Ways = (true, false);
@@ -114,7 +95,7 @@ const WRITES: Ways = (false, true);
 
 const BOTH: Ways = (true, true);
 
-const ROWS: [(Ways, u32, (u8, Heard)); 9] = [
+static ROWS: [(Ways, u32, (u8, Heard)); 9] = [
     // A file that is to lose its bytes is asked for both at once, also where it is opened for reading alone: EACCES, and nothing is cut.
     (WRITES, 0o1000, (13, (Some(BOTH), 1, 0))),
     (READS, 0o1000, (13, (Some(BOTH), 1, 0))),

@@ -1,22 +1,19 @@
 //! READDIRPLUS at a machine that is played: which nodes are told, and when they are forgotten.
-ghost use Rattle.std.specs.Prelude.{⊤};
 
-use crate::tests::sessions::{asked, begun};
-use fs_cred::{Cred, CredFault};
-use fs_model::{Call, Event, FileType, Listing, Name, Named, Reply, Status};
+use crate::tests::sessions::{Played, Player, agree, answer_in, started};
+use fs_cred::CredFault;
+use fs_model::{Call, FileType, Listing, Name, Named, Reply, Status};
 use fuse_plans::{ReplyBody, Response};
 use fuse_protocol::{Extent, Operation};
 use fuse_sessions::Session;
-use fuse_steps::Machine;
 use std::alloc::{AllocError, Global};
 use std::mem;
 use std::test::Fail;
 
 // A machine whose root has two files: `a` is inode 5, and `b` inode 6. It lists them in the other order.
 #[derive(Drop)]
-struct Played {
+struct Root {
     alloc: Global,
-    processes: usize,
 }
 
 fn named(alloc: Global, name: &[u8], ino: u32) -> Result<Named, AllocError> {
@@ -53,15 +50,8 @@ fn status_of(name: &[u8]) -> Status {
     }
 }
 
-impl Machine for Played {
-    // Nothing is claimed of what is served.
-    ghost Serves = { λ _ _ _ _. ⊤ };
-
-    fn serve(&mut self, _event: &Event) -> Reply {
-        Reply::Done
-    }
-
-    fn call(&mut self, _pid: usize, call: &Call) -> Reply {
+impl Player for Root {
+    fn reply_to(&mut self, call: &Call) -> Reply {
         match call {
             Call::Open(..) => Reply::Fd(0),
             Call::Lstat(path) => Reply::Shown(status_of(path.bytes())),
@@ -71,11 +61,6 @@ impl Machine for Played {
             },
             _ => Reply::Done,
         }
-    }
-
-    fn spawn(&mut self, _cred: &Cred) -> Reply {
-        self.processes = self.processes.saturating_add(1);
-        Reply::Pid(self.processes)
     }
 }
 
@@ -130,13 +115,13 @@ fn answer_of(response: Response) -> Answer {
 
 // The request of user 0.
 fn performed(
-    session: &mut Session<Played>,
+    session: &mut Session<Played<Root>>,
     alloc: Global,
     node: u64,
     operation: &Operation<'_>,
 ) -> Result<Answer, CredFault> {
-    let user = asked(node, true, Cred::new(alloc, 0, 0, &[])?);
-    Ok(answer_of(session.perform(user, None, operation)?))
+    let response = answer_in(session, alloc, node, true, (0, 0), operation)?;
+    Ok(answer_of(response))
 }
 
 const STALE: Answer = (116, 0, 0);
@@ -149,7 +134,7 @@ const BEHIND_A: u64 = 1_161_104_296_400_832_007;
 const BEHIND_B: u64 = 2_506_450_870_661_470_262;
 
 // The record of a name of one letter has 160 bytes.
-const ROWS: [(Step, Answer); 18] = [
+static ROWS: [(Step, Answer); 18] = [
     (Step::Opened, DONE),
     (Step::Shown(5), STALE),
     // There is room for no name, and then for one: the kernel knows the node that it was told, and no other.
@@ -172,19 +157,16 @@ const ROWS: [(Step, Answer); 18] = [
     (Step::Shown(5), STALE),
 ];
 
-// The first row that is answered otherwise, and how.
+// The first row that a session answers otherwise, and how.
 fn other_answer(
+    session: &mut Session<Played<Root>>,
     alloc: Global,
     rows: &[(Step, Answer)],
 ) -> Result<Option<(usize, Answer)>, CredFault> {
-    let machine = Played {
-        alloc,
-        processes: 0,
-    };
-    let mut session = begun(alloc, machine, false)?;
+    agree(session, alloc)?;
     for (i, (step, wanted)) in rows.iter().enumerate() {
         let (node, operation) = asked_by(*step);
-        let answer = performed(&mut session, alloc, node, &operation)?;
+        let answer = performed(session, alloc, node, &operation)?;
         if answer != *wanted {
             return Ok(Some((i, answer)));
         }
@@ -192,9 +174,20 @@ fn other_answer(
     Ok(None)
 }
 
+// The same of a session that begins.
+fn first_other(
+    alloc: Global,
+    rows: &[(Step, Answer)],
+) -> Result<Option<(usize, Answer)>, CredFault> {
+    let mut session = started(alloc, Root { alloc }, false)?;
+    let other = other_answer(&mut session, alloc, rows);
+    mem::drop(session);
+    other
+}
+
 #[test]
 fn told_nodes_are_counted(rt: HostRuntime) -> Result<(), Fail> {
-    let other = other_answer(rt.alloc(), &ROWS)?;
+    let other = first_other(rt.alloc(), &ROWS)?;
     assert!(rt; other == None, "{other:?}");
     Ok(())
 }

@@ -4,6 +4,7 @@ use fs_cred::{Cred, CredFault};
 use fs_model::Listing;
 use fuse_state::{Server, descriptor_of, handle_of, owner_of};
 use std::alloc::Global;
+use std::mem;
 use std::test::Fail;
 
 // What happens to processes and handles, or what is asked. Processes go by their numbers, and callers by their users.
@@ -289,20 +290,30 @@ fn other_use(
     Ok(None)
 }
 
-// The first row of each part that a new server answers otherwise, one part after another; and the most bytes of a write.
-fn other_uses(alloc: Global) -> Result<([Option<(usize, u64)>; 3], u32), CredFault> {
-    let mut server = started(alloc)?;
+// The first row of each part that a server answers otherwise, one part after another; and the most bytes of a write.
+fn other_uses(
+    server: &mut Server,
+    alloc: Global,
+) -> Result<([Option<(usize, u64)>; 3], u32), CredFault> {
     let others = [
-        other_use(&mut server, alloc, &PROCESSES)?,
-        other_use(&mut server, alloc, &CROWDS)?,
-        other_use(&mut server, alloc, &DIRECTORIES)?,
+        other_use(server, alloc, &PROCESSES)?,
+        other_use(server, alloc, &CROWDS)?,
+        other_use(server, alloc, &DIRECTORIES)?,
     ];
     Ok((others, server.settings().max_write))
 }
 
+// The same of a server that begins.
+fn first_uses(alloc: Global) -> Result<([Option<(usize, u64)>; 3], u32), CredFault> {
+    let mut server = started(alloc)?;
+    let others = other_uses(&mut server, alloc);
+    mem::drop(server);
+    others
+}
+
 #[test]
 fn processes_and_handles(rt: HostRuntime) -> Result<(), Fail> {
-    let seen = (other_uses(rt.alloc())?, handles_are_apart());
+    let seen = (first_uses(rt.alloc())?, handles_are_apart());
     assert!(rt; seen == (([None; 3], 4096), true), "{seen:?}");
     Ok(())
 }

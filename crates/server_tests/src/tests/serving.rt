@@ -137,7 +137,7 @@ type Row = (
     &'static [&'static [u8]],
 );
 
-const ROWS: [Row; 6] = [
+static ROWS: [Row; 6] = [
     (&[], Fate::Taken, (0, 0, true), &[]),
     (
         &[LOOKUP, FORGET, SLASH],

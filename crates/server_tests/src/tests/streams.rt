@@ -92,7 +92,7 @@ fn sizes_of<K: Kernel + Drop>(kernel: K) -> Sizes {
 const END: Option<Option<usize>> = Some(None);
 
 // A read that was interrupted is done again, also where its request was given up, and one of a device that is gone is the end.
-const READS: [(&[Turn], Sizes); 5] = [
+static READS: [(&[Turn], Sizes); 5] = [
     (&[], [END, END, END]),
     (
         &[Turn::Gives(b"abc"), Turn::Gives(b"de")],
@@ -121,7 +121,7 @@ fn taken_by<K: Kernel + Drop>(kernel: K) -> Option<bool> {
 }
 
 // A reply that nobody waits for is left out.
-const WRITES: [(Output, Option<bool>); 4] = [
+static WRITES: [(Output, Option<bool>); 4] = [
     (Output::Takes, Some(true)),
     (Output::TakesLess, None),
     (Output::Fails(2), Some(false)),
@@ -169,7 +169,7 @@ fn known_in(alloc: Global, status: &[u8], uid: u32, gid: u32) -> Result<Known, A
 }
 
 // Who asks is user 1000 with group 100.
-const TEXTS: [(&[u8], Known); 9] = [
+static TEXTS: [(&[u8], Known); 9] = [
     (STATUS, (Some((3, Some(u32::MAX))), 31)),
     (NO_GROUPS, (Some((0, None)), 9)),
     (MANY_GROUPS, (Some((17, Some(17))), 0)),

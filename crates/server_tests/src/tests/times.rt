@@ -1,14 +1,12 @@
 //! Times at a machine that is played: what a server whose disk keeps them tells it, asks it and shows.
-ghost use Rattle.std.specs.Prelude.{⊤};
 
-use crate::tests::sessions::{asked, begun};
+use crate::tests::sessions::{Player, answer_to};
 use bitflags::Flags;
-use fs_cred::{Cred, CredFault, Errno, Refusal};
+use fs_cred::{CredFault, Errno, Refusal};
 use fs_model::{Call, Event, FileType, Reply, Stamps, Status};
 use fuse_plans::{ReplyBody, Response};
 use fuse_protocol::{AttrChanges, NewTime, OpenFlags, Operation, Time};
 use fuse_state::Times;
-use fuse_steps::Machine;
 use std::alloc::Global;
 use std::mem;
 use std::test::Fail;
@@ -21,14 +19,13 @@ type Heard = (Option<u64>, u32, Option<Three<Option<u64>>>);
 
 // A machine whose one object is a directory. It shows this inode, and has these times for it, unless it refuses.
 #[derive(Drop)]
-struct Played {
+struct Directory {
     ino: u32,
     stamps: Option<Stamps>,
-    processes: usize,
     heard: Heard,
 }
 
-impl Played {
+impl Directory {
     fn status(&self) -> Status {
         Status {
             ino: self.ino,
@@ -54,11 +51,8 @@ impl Played {
     }
 }
 
-impl Machine for Played {
-    // Nothing is claimed of what is served.
-    ghost Serves = { λ _ _ _ _. ⊤ };
-
-    fn serve(&mut self, event: &Event) -> Reply {
+impl Player for Directory {
+    fn heed(&mut self, event: &Event) -> Reply {
         match event {
             Event::Clock(now) => {
                 self.heard.0 = Some(*now);
@@ -74,17 +68,12 @@ impl Machine for Played {
         }
     }
 
-    fn call(&mut self, _pid: usize, call: &Call) -> Reply {
+    fn reply_to(&mut self, call: &Call) -> Reply {
         match call {
             Call::Open(..) => Reply::Fd(0),
             Call::Lstat(_) | Call::Fstat(_) => Reply::Shown(self.status()),
             _ => Reply::Done,
         }
-    }
-
-    fn spawn(&mut self, _cred: &Cred) -> Reply {
-        self.processes = self.processes.saturating_add(1);
-        Reply::Pid(self.processes)
     }
 }
 
@@ -159,17 +148,19 @@ type Disk = (bool, u32, Option<Stamps>);
 // The answer to a request of a server that has just begun, and what the machine heard.
 fn answered(alloc: Global, disk: Disk, ask: Ask) -> Result<(Answer, Heard), CredFault> {
     let (keeps_times, ino, stamps) = disk;
-    let machine = Played {
+    let directory = Directory {
         ino,
         stamps,
-        processes: 0,
         heard: (None, 0, None),
     };
-    let mut session = begun(alloc, machine, keeps_times)?;
-    let user = asked(1, false, Cred::new(alloc, 0, 0, &[])?);
-    let response = session.perform(user, None, &operation_of(ask))?;
-    let machine = session.into_machine();
-    Ok((answer_of(response), machine.heard))
+    let (response, directory) = answer_to(
+        alloc,
+        directory,
+        keeps_times,
+        (0, 0),
+        &operation_of(ask),
+    )?;
+    Ok((answer_of(response), directory.heard))
 }
 
 // The second time isn't known.
