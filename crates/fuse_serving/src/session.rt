@@ -3,6 +3,7 @@
 use crate::performer::Performer;
 use fuse_plans::{Asked, Response, WhoCounts};
 use fuse_protocol::Operation;
+use fuse_requests::perform;
 use fuse_sessions::Session;
 use fuse_steps::Machine;
 use posix_acl::Acl;
@@ -31,6 +32,6 @@ impl<M: Machine> Performer for Session<M> {
         value: Option<Option<Acl>>,
         operation: &Operation<'_>,
     ) -> Result<Response, AllocError> {
-        self.perform(asked, value, operation)
+        perform(self, asked, value, operation)
     }
 }

@@ -1,5 +1,3 @@
-mod Answerings
 mod ByDentries
-mod Doings
+pub mod Doings
 mod Judging
-mod Listings

@@ -24,8 +24,8 @@ fn is_refused_for(errno: Errno, reply: &Reply) -> bool
     }
 }
 
-// The reply to a new process of a credential.
-pub(crate) fn ask_spawn<M: Machine>(machine: &mut M, cred: &Cred) -> Reply
+/// The reply to a new process of a credential.
+pub fn ask_spawn<M: Machine>(machine: &mut M, cred: &Cred) -> Reply
     ensures { DidByMachine M.Serves (ask (Spawn cred.now)) machine.old machine.new (Ok result) }
 {
     machine.spawn(cred)
@@ -112,7 +112,7 @@ impl<M: Machine> Session<M> {
     }
 
     /// A process of who asks; the credential is a copy of theirs.
-    pub(crate) fn caller(&mut self, who: Option<Cred>) -> Result<usize, RequestError>
+    pub fn caller(&mut self, who: Option<Cred>) -> Result<usize, RequestError>
         requires { 1 ≤ self.old.server.room }
         ensures did { Did M.Serves (caller who) self.old self.new result }
         ensures room { self.old.server.room ≤ self.new.server.room + 1 }
@@ -136,7 +136,7 @@ impl<M: Machine> Session<M> {
     }
 
     /// A process of who asks that can hold one more descriptor; the credential is a copy of theirs.
-    pub(crate) fn caller_with_room(&mut self, who: Option<Cred>) -> Result<usize, RequestError>
+    pub fn caller_with_room(&mut self, who: Option<Cred>) -> Result<usize, RequestError>
         requires { 1 ≤ self.old.server.room }
         ensures did { Did M.Serves (caller_with_room who) self.old self.new result }
         ensures room { self.old.server.room ≤ self.new.server.room + 1 }
@@ -149,7 +149,7 @@ impl<M: Machine> Session<M> {
     }
 
     /// The server's own process.
-    pub(crate) fn the_server_process(&self) -> Result<usize, RequestError>
+    pub fn the_server_process(&self) -> Result<usize, RequestError>
         ensures { Did M.Serves the_server_process self.now self.now result }
     {
         self.server.server_process().ok_or(RequestError::EIO)

@@ -1,23 +1,19 @@
-//! A server of a kernel's requests at work: a [`Session`] performs the plan of each request of FUSE on whatever answers events.
+//! A server of a kernel's requests at work: what a [`Session`] does for many of them on whatever answers events.
+//!
+//! It finds the process of who asks, calls objects by the names under which they were found, looks up names, and finds who counts.
+//! `fuse_requests` performs the plan of each request by that.
 #![tactic(auto)]
 
-mod attributes;
-mod begin;
 mod caller;
-mod directories;
-mod dispatch;
-mod family;
-mod files;
-mod handles;
-mod listing;
-mod moves;
+pub mod listing;
 mod names;
 mod nobody;
 mod number;
 mod object;
 mod session;
 mod times;
-mod whole;
-mod xattrs;
 
+pub use caller::ask_spawn;
+pub use number::is_known_directory;
+pub use object::has_dentry;
 pub use session::Session;

@@ -1,7 +1,6 @@
-//! The inodes of nodes and of handles.
+//! The inodes of nodes.
 ghost use Rattle.std.specs.Prelude.{◌≡◌};
 ghost use Rattle.fuse_plans.specs.Callers.{is_known_directory, the_number, directory_number, standing_directory};
-ghost use Rattle.fuse_plans.specs.FilePlans.{the_open};
 ghost use Rattle.fuse_sessions.specs.Performing.{Did};
 
 use crate::object::has_dentry;
@@ -12,7 +11,7 @@ use fuse_steps::Machine;
 use fuse_steps::name::only_if;
 
 /// Whether it is known to be a directory.
-pub(crate) fn is_known_directory(kind: Option<FileType>) -> bool
+pub fn is_known_directory(kind: Option<FileType>) -> bool
     ensures { result ≡ is_known_directory kind }
 {
     matches!(kind, Some(FileType::Directory))
@@ -20,14 +19,14 @@ pub(crate) fn is_known_directory(kind: Option<FileType>) -> bool
 
 impl<M: Machine> Session<M> {
     /// The inode of a node.
-    pub(crate) fn the_number(&self, node: u64) -> Result<u32, RequestError>
+    pub fn the_number(&self, node: u64) -> Result<u32, RequestError>
         ensures { Did M.Serves (the_number node) self.now self.now result }
     {
         self.server.number_of(node).ok_or(RequestError::ESTALE)
     }
 
     /// The inode of a node that is a directory.
-    pub(crate) fn directory_number(&self, node: u64) -> Result<u32, RequestError>
+    pub fn directory_number(&self, node: u64) -> Result<u32, RequestError>
         ensures { Did M.Serves (directory_number node) self.now self.now result }
     {
         let ino = self.the_number(node)?;
@@ -36,17 +35,10 @@ impl<M: Machine> Session<M> {
     }
 
     /// The inode of a node that is a directory and has a name: one that was removed holds no names.
-    pub(crate) fn standing_directory(&self, node: u64) -> Result<u32, RequestError>
+    pub fn standing_directory(&self, node: u64) -> Result<u32, RequestError>
         ensures { Did M.Serves (standing_directory node) self.now self.now result }
     {
         let ino = self.directory_number(node)?;
         only_if(has_dentry(&self.server, ino), ino, RequestError::ESTALE)
-    }
-
-    /// The inode that is open at a handle.
-    pub(crate) fn the_open(&self, handle: u64) -> Result<u32, RequestError>
-        ensures { Did M.Serves (the_open handle) self.now self.now result }
-    {
-        self.server.object_of(handle).ok_or(RequestError::EBADF)
     }
 }

@@ -1,22 +1,26 @@
 //! Calls on objects, by the names under which they were found.
-ghost use Rattle.std.specs.Prelude.{◌≡◌, ◌+◌, ◌^◌, ◌<◌, Err, None, Some, IsNone, IsSome, IfSome, IsTrue, MatchResult, slice_get};
+ghost use Rattle.std.specs.Prelude.{◌≡◌, ◌+◌, ◌^◌, ◌<◌, Err, None, Some, IsNone, IsSome, IfSome, IsTrue, slice_get};
 ghost use Rattle.fuse_state.specs.declared.dentry.Dentry.{Dentry as DentryOf};
 ghost use Rattle.fuse_state.specs.Servers.{kind_known, dentries_of};
-ghost use Rattle.fuse_plans.specs.Callers.{inside, at_dentry, standing_refusal, by_dentries, or_inside, on, by_server_process, has_dentry, by_handle, look_at, look};
+ghost use Rattle.fuse_plans.specs.Callers.{at_dentry, standing_refusal, by_dentries, or_inside, on, by_server_process, has_dentry, by_handle, look_at, look};
 ghost use Rattle.fuse_plans.specs.FilePlans.{when, done};
 ghost use Rattle.fuse_plans.specs.Paths.{at_path, takes_path};
+ghost use Rattle.fuse_plans.specs.Masks.{acl_of};
 ghost use Rattle.fuse_sessions.specs.Performing.{Did};
 
 use crate::number::is_known_directory;
 use crate::session::Session;
 use fs_cred::Errno;
 use fs_layout::ROOT;
-use fs_model::{Call, Name, Path, Reply, Status};
+use fs_model::{AclType, Call, Name, Path, Reply, Status};
 use fuse_plans::RequestError;
 use fuse_state::{Server, descriptor_of, owner_of};
 use fuse_steps::Machine;
+use fuse_steps::acls::told_acl;
 use fuse_steps::asker::{done, obtain_once};
+use fuse_steps::replies::acl_of_reply;
 use fuse_steps::seen::shown;
+use posix_acl::Acl;
 
 // The refusal that stands where each dentry is refused for permission.
 fn standing_refusal(before: RequestError, refusal: RequestError) -> RequestError
@@ -30,7 +34,7 @@ fn standing_refusal(before: RequestError, refusal: RequestError) -> RequestError
 }
 
 /// Whether it has a name that is known, or needs none.
-pub(crate) fn has_dentry(server: &Server, ino: u32) -> bool
+pub fn has_dentry(server: &Server, ino: u32) -> bool
     ensures { result ≡ has_dentry server.now.server ino }
 {
     ino == ROOT || server.dentry_of(ino).is_some()
@@ -38,12 +42,12 @@ pub(crate) fn has_dentry(server: &Server, ino: u32) -> bool
 
 impl<M: Machine> Session<M> {
     /// A path for a call on an object: none is looked at.
-    pub(crate) fn blank_path(&self) -> Path {
+    pub fn blank_path(&self) -> Path {
         Path::new(Vec::new(self.alloc))
     }
 
     /// A call on an object, if it is to be made. Only its error counts.
-    pub(crate) fn on_if(
+    pub fn on_if(
         &mut self,
         condition: bool,
         pid: usize,
@@ -87,7 +91,7 @@ impl<M: Machine> Session<M> {
     /// A call by the dentries of an object in their order, until it isn't refused for permission. The error is what comes
     /// where the object has none. A second name of the call may be one of another directory. The path of the call isn't looked
     /// at, and stays.
-    pub(crate) fn by_dentries(
+    pub fn by_dentries(
         &mut self,
         pid: usize,
         ino: u32,
@@ -118,13 +122,8 @@ impl<M: Machine> Session<M> {
         Err(error)
     }
 
-    /// A call on an object, by where it is known; the root needs no name. The path of the call isn't looked at, and stays.
-    pub(crate) fn on(
-        &mut self,
-        pid: usize,
-        ino: u32,
-        call: &mut Call,
-    ) -> Result<Reply, RequestError>
+    // A call on an object, by where it is known; the root needs no name. The path of the call isn't looked at, and stays.
+    fn on(&mut self, pid: usize, ino: u32, call: &mut Call) -> Result<Reply, RequestError>
         requires { IsTrue (takes_path call.old) }
         ensures did { Did M.Serves (on pid ino (at_path call.old)) self.old self.new result }
         ensures kept { self.new.server ≡ self.old.server }
@@ -140,12 +139,7 @@ impl<M: Machine> Session<M> {
     }
 
     /// A call that is made once, on an object, by where that is known.
-    pub(crate) fn on_once(
-        &mut self,
-        pid: usize,
-        ino: u32,
-        call: Call,
-    ) -> Result<Reply, RequestError>
+    pub fn on_once(&mut self, pid: usize, ino: u32, call: Call) -> Result<Reply, RequestError>
         requires { IsTrue (takes_path call) }
         ensures did { Did M.Serves (on pid ino (at_path call)) self.old self.new result }
         ensures kept { self.new.server ≡ self.old.server }
@@ -157,7 +151,7 @@ impl<M: Machine> Session<M> {
     }
 
     /// A call on an object by the server's own process, made once.
-    pub(crate) fn by_server_process(&mut self, ino: u32, call: Call) -> Result<Reply, RequestError>
+    pub fn by_server_process(&mut self, ino: u32, call: Call) -> Result<Reply, RequestError>
         requires { IsTrue (takes_path call) }
         ensures did { Did M.Serves (by_server_process ino (at_path call)) self.old self.new result }
         ensures kept { self.new.server ≡ self.old.server }
@@ -195,7 +189,7 @@ impl<M: Machine> Session<M> {
     }
 
     /// What stat(2) shows of an object. No permission is asked: the kernel holds it.
-    pub(crate) fn look(&mut self, ino: u32) -> Result<Status, RequestError>
+    pub fn look(&mut self, ino: u32) -> Result<Status, RequestError>
         ensures did { Did M.Serves (look ino) self.old self.new result }
         ensures kept { self.new.server ≡ self.old.server }
     {
@@ -224,5 +218,18 @@ impl<M: Machine> Session<M> {
         };
         let call = Call::Fstat(descriptor_of(handle));
         obtain_once(&mut self.machine, owner_of(handle), call)
+    }
+
+    /// An ACL, where it says more than the mode.
+    pub fn acl_of(&mut self, ino: u32, which: AclType) -> Result<Option<Acl>, RequestError>
+        ensures did { Did M.Serves (acl_of ino which) self.old self.new result }
+        ensures kept { self.new.server ≡ self.old.server }
+    {
+        let call = Call::GetAcl(self.blank_path(), which);
+        let reply = self.by_server_process(ino, call)?;
+        match acl_of_reply(reply) {
+            Some(acl) => Ok(told_acl(which, acl)),
+            None => Err(RequestError::EIO),
+        }
     }
 }

@@ -6,13 +6,17 @@ use fuse_state::{Server, Settings};
 use fuse_steps::Machine;
 use fuse_steps::paths::WithPaths;
 use std::alloc::Global;
+use std::mem;
 
 /// A file system, and what is kept of the requests for it.
 #[derive(Drop)]
 pub struct Session<M> {
-    pub(crate) alloc: Global,
-    pub(crate) machine: WithPaths<M>,
-    pub(crate) server: Server,
+    /// Where memory comes from.
+    pub alloc: Global,
+    /// The file system, with paths to lend.
+    pub machine: WithPaths<M>,
+    /// What is kept of the requests.
+    pub server: Server,
 }
 
 impl<M: Machine> Session<M> {
@@ -32,15 +36,18 @@ impl<M: Machine> Session<M> {
         }
     }
 
+    /// Whether it was told to end.
+    pub fn is_ended(&self) -> bool
+        ensures { result ≡ self.now.server.server.ended }
+    {
+        self.server.is_ended()
+    }
+
     /// The file system, once no more requests are served.
     pub fn into_machine(self) -> M
         ensures { result ≡ self.machine }
     {
-        let Session {
-            alloc: _alloc,
-            machine,
-            server: _server,
-        } = self;
-        machine.into_machine()
+        mem::drop(self.server);
+        self.machine.into_machine()
     }
 }

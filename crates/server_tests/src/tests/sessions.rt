@@ -5,6 +5,7 @@ use fs_cred::{Cred, CredFault};
 use fs_model::{Call, Event, Reply};
 use fuse_plans::{Asked, Response};
 use fuse_protocol::{InitFlags, Offer, Operation, Time};
+use fuse_requests::perform;
 use fuse_sessions::Session;
 use fuse_state::{Keeping, Settings};
 use fuse_steps::Machine;
@@ -111,7 +112,7 @@ pub(super) fn answer_in<P: Player>(
     operation: &Operation<'_>,
 ) -> Result<Response, CredFault> {
     let request = asked(node, needs_nobody, Cred::new(alloc, ids.0, ids.1, &[])?);
-    let response = session.perform(request, None, operation)?;
+    let response = perform(session, request, None, operation)?;
     Ok(response)
 }
 

@@ -1,0 +1,2 @@
+mod Answerings
+mod Listings

@@ -1,0 +1,11 @@
+use Rattle.fuse_sessions.proofs.Doings.{then-fails, then-ok}
+use Rattle.fuse_requests.proofs.names.add_link.Goals as goal
+
+pub returns-in_err-dir_ino : goal.returns-in_err-dir_ino
+returns-in_err-dir_ino g c = then-fails _ c.from_residual.ensures c.in_err-dir_ino.ensures
+
+pub returns-in_err-ino : goal.returns-in_err-ino
+returns-in_err-ino g c = then-ok _ c.in_ok-dir_ino.ensures (then-fails _ c.from_residual-in_err-ino.ensures c.in_err-ino.ensures)
+
+pub returns : goal.returns
+returns g c = then-ok _ c.in_ok-dir_ino.ensures (then-ok _ c.in_ok-ino.ensures c.link_as.ensures)

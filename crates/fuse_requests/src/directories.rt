@@ -1,0 +1,177 @@
+//! Requests for directories. An open one holds no descriptor of the machine.
+ghost use Rattle.std.specs.Prelude.{◌≡◌, ◌+◌, ◌≤◌, [], vec_capacity, true, Err, IsSome, OnOk, IfErr};
+ghost use Rattle.fuse_plans.specs.Callers.{has_dentry};
+ghost use Rattle.fuse_plans.specs.DirectoryPlans.{open_directory, directory_flags, opened_directory_body, take_directory, list_all, list_now, list_kept, read_directory, close_directory};
+ghost use Rattle.fuse_state.specs.Servers.{directory_of};
+ghost use Rattle.fuse_requests.specs.Listings.{Listed};
+ghost use Rattle.fuse_sessions.specs.Performing.{Did};
+
+use crate::attributes::access_if;
+use bitflags::Flags as _;
+use fs_model::{Call, Listing};
+use fuse_plans::{Asked, ReplyBody, RequestError};
+use fuse_protocol::{Extent, OpenedFlags};
+use fuse_sessions::{Session, has_dentry};
+use fuse_state::{Server, Settings};
+use fuse_steps::Machine;
+use fuse_steps::cursor::in_order;
+use fuse_steps::directory::list_and_close;
+use fuse_steps::flags::listing;
+use fuse_steps::listing::listing_bytes;
+use fuse_steps::replies::fd_of_reply;
+use posix_acl::Perms;
+
+// What the kernel may keep of a directory that is opened.
+fn directory_flags(settings: Settings) -> OpenedFlags
+    ensures { result ≡ directory_flags settings }
+{
+    let bits = if settings.keeping.pages {
+        OpenedFlags::KEEP_CACHE.bits() + OpenedFlags::CACHE_DIR.bits()
+    } else {
+        0
+    };
+    OpenedFlags::from_bits_retain(bits)
+}
+
+// What is told of a directory that was opened.
+fn opened_body(server: &Server, handle: u64) -> ReplyBody
+    ensures { result ≡ opened_directory_body handle server.now.server }
+{
+    ReplyBody::Opened(handle, directory_flags(server.settings()))
+}
+
+/// Opens a directory, for reading by who asks; of one that was removed nothing is asked.
+pub(crate) fn open_directory<M: Machine>(
+    session: &mut Session<M>,
+    asked: Asked,
+) -> Result<ReplyBody, RequestError>
+    requires room { 2 ≤ session.old.server.room }
+    ensures { Did M.Serves (open_directory asked) session.old session.new result }
+{
+    let ino = session.directory_number(asked.node)?;
+    let Some(cred) = &asked.cred else {
+        return Err(RequestError::EACCES);
+    };
+    let owner = cred.uid();
+    let has_name = has_dentry(&session.server, ino);
+    access_if(session, has_name, asked.cred, ino, Perms::from_digit(4))?;
+    take_directory(session, owner, ino)
+}
+
+// Where the user may open one more.
+fn take_directory<M: Machine>(
+    session: &mut Session<M>,
+    owner: u32,
+    ino: u32,
+) -> Result<ReplyBody, RequestError>
+    requires { 1 ≤ session.old.server.room }
+    ensures { Did M.Serves (take_directory owner ino) session.old session.new result }
+{
+    if !session.server.may_open_directory(owner) {
+        return Err(RequestError::ENFILE);
+    }
+    let handle = session.server.next_directory();
+    session.server.add_directory(owner, ino);
+    Ok(opened_body(&session.server, handle))
+}
+
+// The names in a directory, as the server's own process sees them.
+fn list_all<M: Machine>(session: &mut Session<M>, ino: u32) -> Result<Listing, RequestError>
+    ensures did { Did M.Serves (list_all ino true) session.old session.new result }
+    ensures kept { session.new.server ≡ session.old.server }
+{
+    let pid = session.the_server_process()?;
+    let call = Call::Open(session.blank_path(), listing(), 0);
+    let opened = session.on_once(pid, ino, call)?;
+    let fd = fd_of_reply(&opened);
+    opened.discard();
+    let Some(fd) = fd else {
+        return Err(RequestError::EIO);
+    };
+    list_and_close(&mut session.machine, pid, fd)
+}
+
+// A directory that was removed has no names.
+fn list_by_dentries<M: Machine>(session: &mut Session<M>, ino: u32) -> Result<Listing, RequestError>
+    ensures did { Did M.Serves (list_all ino (has_dentry session.old.server.server ino)) session.old session.new result }
+    ensures kept { session.new.server ≡ session.old.server }
+{
+    if has_dentry(&session.server, ino) {
+        list_all(session, ino)
+    } else {
+        Ok(Listing::new(Vec::new(session.alloc)))
+    }
+}
+
+/// The names of an open directory are those that it was listed with last. At the beginning it is listed anew.
+pub(crate) fn list_kept<M: Machine>(
+    session: &mut Session<M>,
+    node: u64,
+    extent: Extent,
+) -> Result<(), RequestError>
+    requires { 1 ≤ session.old.server.room }
+    ensures listed { OnOk result (Listed M.Serves (list_kept node extent) session.old session.new extent.handle) }
+    ensures failed { IfErr result (λ e. Did M.Serves (list_kept node extent) session.old session.new (Err e)) }
+    ensures room { session.old.server.room ≤ session.new.server.room + 1 }
+{
+    let Some(open) = session.server.directory_of(extent.handle) else {
+        return Err(RequestError::EBADF);
+    };
+    if extent.offset != 0 && open.listing.is_some() {
+        return Ok(());
+    }
+    let open_ino = open.ino;
+    list_now(session, node, extent.handle, open_ino)
+}
+
+// The names that are there now, in the directory of the node, if that is the one that is open.
+fn list_now<M: Machine>(
+    session: &mut Session<M>,
+    node: u64,
+    handle: u64,
+    open_ino: u32,
+) -> Result<(), RequestError>
+    requires known { IsSome (directory_of session.old.server.server handle) }
+    requires room { 1 ≤ session.old.server.room }
+    ensures listed { OnOk result (Listed M.Serves (list_now node handle open_ino) session.old session.new handle) }
+    ensures failed { IfErr result (λ e. Did M.Serves (list_now node handle open_ino) session.old session.new (Err e)) }
+    ensures room { session.old.server.room ≤ session.new.server.room + 1 }
+{
+    let ino = session.the_number(node)?;
+    if ino != open_ino {
+        return Err(RequestError::ESTALE);
+    }
+    let names = list_by_dentries(session, ino)?;
+    session.server.set_listing(handle, in_order(names));
+    Ok(())
+}
+
+/// The entries of a directory, with room for so many bytes.
+pub(crate) fn read_directory<M: Machine>(
+    session: &mut Session<M>,
+    node: u64,
+    extent: Extent,
+    room: Vec<u8>,
+) -> Result<ReplyBody, RequestError>
+    requires empty { room.items ≡ [] }
+    requires capacity { extent.size ≤ vec_capacity room }
+    requires room { 1 ≤ session.old.server.room }
+    ensures { Did M.Serves (read_directory node extent) session.old session.new result }
+{
+    list_kept(session, node, extent)?;
+    let Some(names) = session.server.listing_of(extent.handle) else {
+        unreachable!()
+    };
+    Ok(ReplyBody::Bytes(listing_bytes(extent, names, room)))
+}
+
+/// A directory is closed.
+pub(crate) fn close_directory<M: Machine>(
+    session: &mut Session<M>,
+    handle: u64,
+) -> Result<ReplyBody, RequestError>
+    ensures { Did M.Serves (close_directory handle) session.old session.new result }
+{
+    session.server.remove_directory(handle);
+    Ok(ReplyBody::Nothing)
+}
