@@ -19,16 +19,13 @@ use Rattle.fs_layout.proofs.FirstEntries.{ties}
 use Rattle.fs_layout.proofs.MapLaws.{get-with_entry}
 use Rattle.fs_layout.specs.Maps.{get}
 use Rattle.fs_model.specs.declared.event.Event.{Event}
-use Rattle.fs_model.specs.declared.reply.FileType.{FileType}
 use Rattle.fs_model.specs.declared.reply.Reply.{Reply}
 use Rattle.fuse_protocol.specs.declared.entry.DirectoryRecord.{DirectoryRecord}
 use Rattle.fuse_protocol.specs.declared.reply.FoundEntry.{FoundEntry}
 use Rattle.fuse_protocol.specs.Bytes.{bytes_of_u32s, bytes_of_u64s}
 use Rattle.fuse_protocol.specs.Entries.{directory_entry_bytes, directory_record_bytes, entry_size, found_bytes, record_size}
-use Rattle.fuse_state.specs.declared.dentry.Dentry.{Dentry}
 use Rattle.fuse_state.specs.declared.directory.OpenDirectory.{OpenDirectory}
-use Rattle.fuse_state.specs.Servers.{Server, directory_of, listing_in, listing_of, named_at, once_more, with_dentry, with_generation, with_listing, with_listing_of}
-use Rattle.fuse_state.specs.Changes.{is_gone, with_found}
+use Rattle.fuse_state.specs.Servers.{Server, directory_of, listing_in, listing_of, named_at, with_listing, with_listing_of}
 use Rattle.fuse_plans.specs.declared.request_error.RequestError.{RequestError}
 use Rattle.fuse_plans.specs.declared.reply.ReplyBody.{ReplyBody}
 use Rattle.fuse_plans.specs.declared.reply.ReplyBody.TheVariants as bodies

@@ -335,8 +335,8 @@ fn note_times(server: &mut Server, now: Time, ino: u32, changes: &AttrChanges)
     server.set_times(ino, times);
 }
 
-/// Sets times of an object. Where the disk keeps times it has to be what was shown.
-pub(crate) fn set_stamps<M: Machine>(
+// Sets times of an object. Where the disk keeps times it has to be what was shown.
+fn set_stamps<M: Machine>(
     session: &mut Session<M>,
     now: Time,
     ino: u32,

@@ -17,8 +17,8 @@ use fuse_steps::replies::pid_of_reply;
 const VERSION: u32 = 7;
 
 // The server's own process begins, unless it has.
-fn or_server_process<M: Machine>(session: &mut Session<M>, own: Cred) -> Result<(), RequestError>
-    requires { own ≡ usual_credential 0 0 [] }
+fn or_server_process<M: Machine>(session: &mut Session<M>, own: &Cred) -> Result<(), RequestError>
+    requires { own.now ≡ usual_credential 0 0 [] }
     ensures did { Did M.Serves (or_server_process session.old.server.server.server_process) session.old session.new result }
     ensures room { session.old.server.room ≤ session.new.server.room }
 {
@@ -29,12 +29,15 @@ fn or_server_process<M: Machine>(session: &mut Session<M>, own: Cred) -> Result<
 }
 
 // The server's own process begins.
-fn begin_server_process<M: Machine>(session: &mut Session<M>, own: Cred) -> Result<(), RequestError>
-    requires { own ≡ usual_credential 0 0 [] }
+fn begin_server_process<M: Machine>(
+    session: &mut Session<M>,
+    own: &Cred,
+) -> Result<(), RequestError>
+    requires { own.now ≡ usual_credential 0 0 [] }
     ensures did { Did M.Serves (or_server_process None) session.old session.new result }
     ensures room { session.old.server.room ≤ session.new.server.room }
 {
-    let reply = unless_refused(ask_spawn(&mut session.machine, &own))?;
+    let reply = unless_refused(ask_spawn(&mut session.machine, own))?;
     let pid = pid_of_reply(&reply);
     reply.discard();
     let Some(pid) = pid else {
@@ -48,9 +51,9 @@ fn begin_server_process<M: Machine>(session: &mut Session<M>, own: Cred) -> Resu
 pub(crate) fn begin<M: Machine>(
     session: &mut Session<M>,
     offer: &Offer,
-    own: Cred,
+    own: &Cred,
 ) -> Result<ReplyBody, RequestError>
-    requires { own ≡ usual_credential 0 0 [] }
+    requires { own.now ≡ usual_credential 0 0 [] }
     ensures { Did M.Serves (begin offer.now) session.old session.new result }
 {
     if offer.major < VERSION {

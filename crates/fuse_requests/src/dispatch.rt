@@ -379,7 +379,7 @@ fn perform_on_whole<M: Machine>(
         Operation::StatFs => Ok(response_of(count_space(session))),
         Operation::Init(offer) => {
             let own = own_cred(session.alloc)?;
-            Ok(response_of(begin(session, offer, own)))
+            Ok(response_of(begin(session, offer, &own)))
         }
         Operation::FSyncDir | Operation::SyncFs => Ok(response_of(sync_all(session))),
         Operation::Destroy => Ok(response_of(end(session))),

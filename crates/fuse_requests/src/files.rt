@@ -1,13 +1,13 @@
 //! Requests that open files, and what is done by the handle of an open one.
 ghost use Rattle.std.specs.Prelude.{◌≡◌, ◌+◌, ◌≤◌, ◌&&◌, not, Err, ◌<◌, [], length, min, vec_capacity};
+ghost use Rattle.fs_model.specs.Limits.{move_limit, run_limit, write_limit};
+ghost use Rattle.fuse_state.specs.Servers.{descriptor_of};
 ghost use Rattle.fuse_plans.specs.FilePlans.{ask_first, asked_mode, touched_if, open_object, open_granted, open_file, or_opened, open_or_make, show_timed, look_open, file_flags, opened_body, created_body, tell_created, create_by, create_file, the_open, read_file, writes_of, write_by, call_open, seek_open, close_file, sync_file};
 ghost use Rattle.fs_cred.specs.declared.errno.Errno.TheVariants.{EEXIST};
 ghost use Rattle.fuse_plans.specs.Flags.{is_trunc, is_excl};
 ghost use Rattle.fuse_plans.specs.RequestErrors.{is_for};
 ghost use Rattle.fuse_sessions.specs.Performing.{Did};
 ghost use Rattle.fuse_steps.specs.Performing.{DidByMachine};
-ghost use Rattle.fs_model.specs.Limits.{move_limit, run_limit, write_limit};
-ghost use Rattle.fuse_state.specs.Servers.{descriptor_of};
 
 use crate::act::Act;
 use crate::names::{Place, new_place};

@@ -39,8 +39,8 @@ pub(crate) fn new_place<M: Machine>(session: &mut Session<M>, now: Time, dir_ino
     }
 }
 
-/// The directory of a name that is asked for.
-pub(crate) fn directory_for<M: Machine>(
+// The directory of a name that is asked for.
+fn directory_for<M: Machine>(
     session: &Session<M>,
     node: u64,
     name: &Path,
@@ -51,8 +51,8 @@ pub(crate) fn directory_for<M: Machine>(
     session.standing_directory(node)
 }
 
-/// The directory of a name that is asked for, and a process of who asks. The credential is a copy of theirs.
-pub(crate) fn directory_and_caller<M: Machine>(
+// The directory of a name that is asked for, and a process of who asks.
+fn directory_and_caller<M: Machine>(
     session: &mut Session<M>,
     asked: Asked,
     name: &Path,
