@@ -9,7 +9,7 @@ ghost use Rattle.fuse_serving.specs.Pieces.{AnswersOne, AnswersWithMemory};
 
 use crate::caller::Asker;
 use crate::performer::Performer;
-use crate::question::{credential_of, value_in};
+use crate::question::{credential_of_caller, value_in};
 use crate::room::MAX_READ;
 use fuse_plans::{Asked, RequestError, Response};
 use fuse_protocol::{Operation, Request};
@@ -52,7 +52,7 @@ fn ask<P: Performer>(
     if reads_too_much(&spoken.operation) {
         return Err(AllocError);
     }
-    let cred = credential_of(alloc, spoken.uid, spoken.gid, &asker.caller)?;
+    let cred = credential_of_caller(alloc, spoken.uid, spoken.gid, &asker.caller)?;
     let value = value_in(alloc, &spoken.operation)?;
     let asked = Asked {
         node: spoken.node,

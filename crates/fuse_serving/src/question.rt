@@ -1,31 +1,17 @@
 //! Who asks, and with what: from the bytes of a request and what is known beside them.
 ghost use Rattle.std.specs.Prelude.{◌≡◌, IfOk};
-ghost use Rattle.fs_cred.specs.Capabilities.{usual_caps};
 ghost use Rattle.fuse_plans.specs.Protocol.{IsValueOf, HasValue};
-ghost use Rattle.fuse_plans.specs.Requests.{caps_left, credential_with};
+ghost use Rattle.fuse_plans.specs.Requests.{credential_with};
 
 use crate::caller::Caller;
-use bitflags::Flags;
-use fs_cred::{Caps, Cred, CredFault};
+use fs_cred::Cred;
 use fuse_protocol::{AclValueFault, Operation, read_acl_value};
+use fuse_sessions::credential_of;
 use posix_acl::{Acl, AclFault};
 use std::alloc::{AllocError, Global};
 
-fn usual_caps(uid: u32) -> Caps
-    ensures { result ≡ usual_caps uid }
-{
-    if uid == 0 { Caps::all() } else { Caps::empty() }
-}
-
-// The capabilities of the user, less those that the process lacks.
-fn caps_left(uid: u32, held: Caps) -> Caps
-    ensures { result ≡ caps_left uid held }
-{
-    Caps::from_bits_retain(usual_caps(uid).bits() & held.bits())
-}
-
 /// The credential of who asks, unless not all groups are known.
-pub(crate) fn credential_of(
+pub(crate) fn credential_of_caller(
     alloc: Global,
     uid: u32,
     gid: u32,
@@ -33,14 +19,9 @@ pub(crate) fn credential_of(
 ) -> Result<Option<Cred>, AllocError>
     ensures { IfOk result (λ cred. cred ≡ credential_with uid gid caller.now.caps caller.now.groups) }
 {
-    let Some(groups) = &caller.groups else {
-        return Ok(None);
-    };
-    let caps = caps_left(uid, caller.caps);
-    match Cred::of_process(alloc, uid, gid, groups.ids(), caps) {
-        Ok(cred) => Ok(Some(cred)),
-        Err(CredFault::TooManyGroups) => Ok(None),
-        Err(CredFault::OutOfMemory) => Err(AllocError),
+    match &caller.groups {
+        Some(groups) => credential_of(alloc, uid, gid, groups.ids(), caller.caps),
+        None => Ok(None),
     }
 }
 

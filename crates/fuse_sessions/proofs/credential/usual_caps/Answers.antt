@@ -2,7 +2,7 @@ use Rattle.std.proofs.Common.{◌≡◌, ◌∙◌, ℕ, refl, ap}
 use Rattle.bitflags.specs.Sets.{known_bits, known_from}
 use Rattle.fs_cred.specs.declared.caps.Caps.{Caps}
 use Rattle.fs_cred.specs.Capabilities.{named_caps, all_caps, usual_caps}
-use Rattle.fuse_serving.proofs.question.usual_caps.Goals as goal
+use Rattle.fuse_sessions.proofs.credential.usual_caps.Goals as goal
 
 known : known_bits named_caps ≡ 31
 unfolding known_from
