@@ -16,7 +16,7 @@ mod groups;
 use crate::borrower::Borrower;
 use crate::dentry::{Dentry, Found};
 use fs_model::{Call, Name};
-use groups::Groups;
+use groups::{Groups, key_at};
 use slab::Slab;
 use std::alloc::{AllocError, Global};
 use std::cmp::Ordering;
@@ -92,7 +92,7 @@ impl Names {
         let Ok(at) = search_hashed(&self.found, &self.by_hash, hash, dentry) else {
             return None;
         };
-        let key = self.by_hash.key_at(hash, at)?;
+        let key = key_at(&self.by_hash, hash, at)?;
         self.found.get(key).map(|found| found.ino)
     }
 
@@ -126,8 +126,8 @@ impl Names {
             unreachable!()
         };
         let key = self.found.insert_reserved(found);
-        self.by_hash.insert(hash, at, key);
-        self.by_inode.insert(ino, behind, key);
+        groups::insert(&mut self.by_hash, hash, at, key);
+        groups::insert(&mut self.by_inode, ino, behind, key);
         self.room -= 1;
     }
 
@@ -152,7 +152,7 @@ impl Names {
             → self.new.0 ≡ without dentry_cmp self.old.0 p }
         ensures room { self.new.1 ≡ self.old.1 }
     {
-        let Some(key) = self.by_inode.key_at(ino, at) else {
+        let Some(key) = key_at(&self.by_inode, ino, at) else {
             unreachable!()
         };
         let Some(found) = self.found.get(key) else {
@@ -162,8 +162,8 @@ impl Names {
         let Ok(place) = search_hashed(&self.found, &self.by_hash, hash, &found.dentry) else {
             unreachable!()
         };
-        self.by_hash.remove(hash, place);
-        self.by_inode.remove(ino, at);
+        groups::remove(&mut self.by_hash, hash, place);
+        groups::remove(&mut self.by_inode, ino, at);
         let _found = self.found.try_remove(key);
     }
 
@@ -172,7 +172,7 @@ impl Names {
         ensures all { result ≡ length (dentries_in self.now.0 ino) }
         ensures rising { IsMap dentry_cmp self.now.0 }
     {
-        self.by_inode.count(ino)
+        groups::count(&self.by_inode, ino)
     }
 
     /// No name leads to an inode any more.
@@ -279,7 +279,7 @@ fn search(names: &Slab<Found>, groups: &Groups, group: u32, dentry: &Dentry) -> 
     ensures { MatchResult result (IsAt entries dentry.now) (IsGap dentry_cmp entries dentry.now) }
 {
     let mut at = 0;
-    while let Some(key) = groups.key_at(group, at) {
+    while let Some(key) = key_at(groups, group, at) {
         match compare_dentry(names, key, dentry) {
             Ordering::Less => at = skip_lower(names, groups, group, at + 1, dentry),
             Ordering::Equal => return Ok(at),
@@ -331,7 +331,7 @@ fn next_lower(
     ensures { IfSome result (λ next. (next ≡ at + step) × AreLower entries dentry.now next) }
 {
     let next = at.checked_add(step)?;
-    let key = groups.key_at(group, next - 1)?;
+    let key = key_at(groups, group, next - 1)?;
     match compare_dentry(names, key, dentry) {
         Ordering::Less => Some(next),
         _ => None,
@@ -344,5 +344,5 @@ fn key_of(groups: &Groups, ino: u32, at: usize) -> Option<usize>
     ensures key { (keys : List ℕ) → IsGroup groups.now.0 ino keys → result ≡ slice_get keys at }
     ensures within { IsSome result → at < 2 ^ 32 }
 {
-    groups.key_at(ino, u32::try_from(at).ok()?)
+    key_at(groups, ino, u32::try_from(at).ok()?)
 }

@@ -36,7 +36,7 @@ invariant_of-self c =
     let fits : count_by is_some s + 1 < 2 ^ 32 = omega (arith, rooms.for_places, c.requires.room, room) in
     let hash_room = has_room s by_hash c.self.inside.by_hash.0 c.self.invariant.0.hashed c.hash_of-hash.result c.in-Err.at c.in-Err.ensures.within fits in
     let inode_room = has_room s by_inode c.self.inside.by_inode.0 c.self.invariant.0.held c.args.ino c.in-Err-search_held.behind c.in-Err-search_held.ensures.within fits in (
-      added_indexed s c.insert_reserved-key.new.self.slots c.self.inside.by_hash.0 c.self.inside.by_inode.0 c.insert.new.self.0 c.insert-2.new.self.0 c.self.invariant.0
+      added_indexed s c.insert_reserved-key.new.self.slots c.self.inside.by_hash.0 c.self.inside.by_inode.0 c.insert.new.groups.0 c.insert-2.new.groups.0 c.self.invariant.0
           c.insert_reserved-key.result c.hash_of-hash.result updates.others c.args.dentry c.args.ino c.hash_of-hash.ensures c.in-Err.at c.in-Err-search_held.behind
           c.insert_reserved-key.ensures.was_vacant updates.changed (not_known s c.args.dentry (ap (λ n. get dentry_cmp n.0 c.args.dentry) c.self.view_is ∙ c.requires.new))
           c.in-Err.ensures (c.insert.ensures.inserted hash_room.0 hash_room.1 hash_room.2 hash_room.3)
@@ -53,7 +53,7 @@ pub returns-clause-put : goal.returns-clause-put
 returns-clause-put c =
     let s = c.self.inside.found.slots in
     let updates = c.insert_reserved-key.ensures.updates in
-    added_names s c.insert_reserved-key.new.self.slots c.self.inside.by_hash.0 c.self.inside.by_inode.0 c.insert.new.self.0 c.insert-2.new.self.0 c.self.invariant.0
+    added_names s c.insert_reserved-key.new.self.slots c.self.inside.by_hash.0 c.self.inside.by_inode.0 c.insert.new.groups.0 c.insert-2.new.groups.0 c.self.invariant.0
     c.insert_reserved-key.result c.hash_of-hash.result updates.others c.args.dentry c.args.ino c.hash_of-hash.ensures c.in-Err.at c.in-Err-search_held.behind
     c.insert_reserved-key.ensures.was_vacant updates.changed (not_known s c.args.dentry (ap (λ n. get dentry_cmp n.0 c.args.dentry) c.self.view_is ∙ c.requires.new))
     ∙ ap (λ n. with_entry dentry_cmp n.0 c.args.dentry c.args.ino) c.self.view_is

@@ -53,7 +53,7 @@ invariant_of-self c =
     let at = subst (λ (f : Found). IsAt (in_group by_hash (keyed_names s) c.hash_of-hash.result) f.dentry c.in-Ok.place) one c.in-Ok.ensures in
     let fewer : slab_len c.try_remove-found.new.self + 1 ≡ slab_len c.self.inside.found =
     subst (λ r. OnSome r (slab_len c.try_remove-found.new.self + 1 ≡ slab_len c.self.inside.found)) (c.try_remove-found.ensures.value ∙ h.there) c.try_remove-found.ensures.len in (
-      removed_indexed s c.try_remove-found.new.self.slots c.self.inside.by_hash.0 c.self.inside.by_inode.0 c.remove.new.self.0 c.remove-2.new.self.0 c.self.invariant.0 c.in-Some.key
+      removed_indexed s c.try_remove-found.new.self.slots c.self.inside.by_hash.0 c.self.inside.by_inode.0 c.remove.new.groups.0 c.remove-2.new.groups.0 c.self.invariant.0 c.in-Some.key
           c.hash_of-hash.result c.try_remove-found.ensures.updates.others h.dentry c.args.ino hash c.in-Ok.place c.args.at h.there c.try_remove-found.ensures.updates.changed at
           (c.remove.ensures.removed (keys_of (in_group by_hash (keyed_names s) c.hash_of-hash.result)) (c.self.invariant.0.hashed c.hash_of-hash.result)
           (omega (arith, at.within, length-map (in_group by_hash (keyed_names s) c.hash_of-hash.result) (λ e. e.1.0))))
@@ -73,6 +73,6 @@ returns-clause-removed c = λ p nth.
     let s = c.self.inside.found.slots in
     let h = held_at s c.args.ino c.self.inside.by_inode.0 c.self.invariant.0.held c.args.at c.in-Some.key c.ranges.at.fits (sym c.key_at.ensures ∙ c.in-Some.is) in
     let same = same_some (sym h.nth ∙ ap (λ n. slice_get (dentries_in n.0 c.args.ino) c.args.at) c.self.view_is ∙ nth) in
-    removed_names s c.try_remove-found.new.self.slots c.self.inside.by_hash.0 c.self.inside.by_inode.0 c.remove.new.self.0 c.remove-2.new.self.0 c.self.invariant.0 c.in-Some.key
+    removed_names s c.try_remove-found.new.self.slots c.self.inside.by_hash.0 c.self.inside.by_inode.0 c.remove.new.groups.0 c.remove-2.new.groups.0 c.self.invariant.0 c.in-Some.key
     (hash_of h.dentry) c.try_remove-found.ensures.updates.others h.dentry c.args.ino refl c.in-Ok.place c.args.at h.there c.try_remove-found.ensures.updates.changed
     ∙ ap (λ n. without dentry_cmp n.0 h.dentry) c.self.view_is ∙ ap (without dentry_cmp c.args.self.now.0) same
