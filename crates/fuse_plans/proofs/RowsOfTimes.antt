@@ -1,5 +1,5 @@
 -- Times, where the disk keeps them and where it doesn't.
-use Rattle.std.specs.Prelude.{◌≡◌, ℕ, true, false, [], ◌∷◌, codes, Option, None, Some, pos}
+use Rattle.std.specs.Prelude.{◌≡◌, ℕ, true, false, [], ◌∷◌, map, codes, Option, None, Some, pos}
 use Rattle.std.proofs.Common.{refl}
 use Rattle.fs_cred.specs.declared.errno.Errno.TheVariants.{EIO}
 use Rattle.fs_model.specs.declared.call.Call.TheVariants.{Open, Write, Lseek, Fstat, Lstat, Ftruncate, Mkdir, Umask}
@@ -23,35 +23,18 @@ use Rattle.fuse_plans.proofs.Replays.{Told, Error, played, all_plans, second, ne
 abbrev at : ℕ → ℕ → Time
 at seconds nanoseconds = record { seconds = seconds; nanoseconds = nanoseconds }
 
--- when 1970 begins, and a second before
-pub counts_from_one : stamp_of (at 0 0) ≡ 1
-counts_from_one = refl
-
-pub before_1970 : stamp_of (at 18446744073709551615 0) ≡ 1
-before_1970 = refl
-
-pub counts_nanoseconds : stamp_of (at 1700000000 500000000) ≡ 1700000000500000000
-counts_nanoseconds = refl
+-- when 1970 begins, a second before, and later
+pub counts : map stamp_of (at 0 0 ∷ at 18446744073709551615 0 ∷ at 1700000000 500000000 ∷ []) ≡ 1 ∷ 1 ∷ 1700000000500000000 ∷ []
+counts = refl
 
 -- the last that can be counted, the next one, and the last of the seconds that aren't before 1970
-pub counts_last : stamp_of (at 18446744073 709551615) ≡ 18446744073709551615
+pub counts_last : map stamp_of (at 18446744073 709551615 ∷ at 18446744073 709551616 ∷ at 9223372036854775807 999999999 ∷ [])
+    ≡ 18446744073709551615 ∷ 18446744073709551615 ∷ 18446744073709551615 ∷ []
 counts_last = refl
 
-pub past_last : stamp_of (at 18446744073 709551616) ≡ 18446744073709551615
-past_last = refl
-
-pub last_second : stamp_of (at 9223372036854775807 999999999) ≡ 18446744073709551615
-last_second = refl
-
 -- 0 is shown as the start
-pub shows_start : time_of (second 1000000001) 0 ≡ second 1000000001
-shows_start = refl
-
-pub shows_first : time_of (second 1000000001) 1 ≡ at 0 1
-shows_first = refl
-
-pub shows_nanoseconds : time_of (second 1000000001) 1700000000500000000 ≡ at 1700000000 500000000
-shows_nanoseconds = refl
+pub shows : map (time_of (second 1000000001)) (0 ∷ 1 ∷ 1700000000500000000 ∷ []) ≡ second 1000000001 ∷ at 0 1 ∷ at 1700000000 500000000 ∷ []
+shows = refl
 
 -- ---- what is asked
 
