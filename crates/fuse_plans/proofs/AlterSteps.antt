@@ -1,6 +1,5 @@
 -- What the machine changes by an event is no more than is said of it.
 use Rattle.std.specs.Prelude.{◌≡◌, ℕ, Bool, true, false, not, ◌&&◌, ◌||◌, List, [], ◌∷◌, ◌++◌, Option, None, Some, is_some, if◌then◌else◌}
-use Rattle.std.specs.List.{list_any}
 use Rattle.std.proofs.Common.{refl, sym, ap, subst}
 use Rattle.std.specs.Ordering.{nat_cmp}
 use Rattle.posix_acl.specs.AccessList.{AccessList}
@@ -29,7 +28,7 @@ use Rattle.fs_model.specs.Steps.{Choice, with_stamps, scene_of, late_refusal, de
 use Rattle.fs_model.specs.TreeChanges.{Same, Rewrite, Make, MoveName, changed, swept, touches, touched}
 use Rattle.fs_model.proofs.StepsDemands.{AreMet, demands_met, unrefused}
 use Rattle.fuse_plans.specs.Alterations.{Alteration, resizes, adds_name, sets_owner, sets_group, sets_times, where_so, alterations_by, alterations_in}
-use Rattle.fuse_plans.specs.AlteredTrees.{is_of_bytes, is_of_mode, sets_default_list, is_added, SaysOne, KeepsUnsaid, AltersOnly, LeavesUnsaid, stays, alters, StepsChangeWhatIsSaid}
+use Rattle.fuse_plans.specs.AlteredTrees.{says_one, KeepsUnsaid, AltersOnly, LeavesUnsaid, stays, alters, StepsChangeWhatIsSaid}
 
 -- what is said may change
 said_so : {A : Type 0} (b : Bool) → b ≡ true → b ≡ false → A
@@ -44,20 +43,20 @@ module _ (list : List Alteration) (owner group : ℕ) (stamps : Stamps) where
   abbrev node_of : Body → Node
   node_of body = record { owner = owner; group = group; stamps = stamps; body = body }
 
-  keeps_bytes : (bytes : List ℕ) (body : Body) → list_any is_of_bytes list ≡ true → KeepsUnsaid list (node_of body) (node_of (with_bytes bytes body))
+  keeps_bytes : (bytes : List ℕ) (body : Body) → says_one (λ x. x.bytes) list ≡ true → KeepsUnsaid list (node_of body) (node_of (with_bytes bytes body))
   keeps_bytes bytes (File a old) said =
       record { bytes = said_so _ said; mode = λ u. refl; access = λ u. refl; default = λ u. refl; owner = λ u. refl; group = λ u. refl; times = λ u. refl; kind = refl; names = refl; target = refl }
   keeps_bytes bytes (Dir a d) said = all_kept list _
   keeps_bytes bytes (Link target) said = all_kept list _
 
-  keeps_mode : (cred : Credential) (mode : ℕ) (body : Body) → list_any is_of_mode list ≡ true → KeepsUnsaid list (node_of body) (node_of (with_mode cred group mode body))
+  keeps_mode : (cred : Credential) (mode : ℕ) (body : Body) → says_one (λ x. x.mode) list ≡ true → KeepsUnsaid list (node_of body) (node_of (with_mode cred group mode body))
   keeps_mode cred mode (File a old) said =
       record { bytes = λ u. refl; mode = said_so _ said; access = said_so _ said; default = λ u. refl; owner = λ u. refl; group = λ u. refl; times = λ u. refl; kind = refl; names = refl; target = refl }
   keeps_mode cred mode (Dir a d) said =
       record { bytes = λ u. refl; mode = said_so _ said; access = said_so _ said; default = λ u. refl; owner = λ u. refl; group = λ u. refl; times = λ u. refl; kind = refl; names = refl; target = refl }
   keeps_mode cred mode (Link target) said = all_kept list _
 
-  keeps_access : (acl : Option AccessList) (body : Body) → list_any is_of_mode list ≡ true → KeepsUnsaid list (node_of body) (node_of (with_set_acl AccessAcl acl body))
+  keeps_access : (acl : Option AccessList) (body : Body) → says_one (λ x. x.mode) list ≡ true → KeepsUnsaid list (node_of body) (node_of (with_set_acl AccessAcl acl body))
   keeps_access None body said = all_kept list _
   keeps_access (Some acl) (File a old) said =
       record { bytes = λ u. refl; mode = said_so _ said; access = said_so _ said; default = λ u. refl; owner = λ u. refl; group = λ u. refl; times = λ u. refl; kind = refl; names = refl; target = refl }
@@ -65,7 +64,7 @@ module _ (list : List Alteration) (owner group : ℕ) (stamps : Stamps) where
       record { bytes = λ u. refl; mode = said_so _ said; access = said_so _ said; default = λ u. refl; owner = λ u. refl; group = λ u. refl; times = λ u. refl; kind = refl; names = refl; target = refl }
   keeps_access (Some acl) (Link target) said = all_kept list _
 
-  keeps_default : (acl : Option AccessList) (body : Body) → list_any sets_default_list list ≡ true → KeepsUnsaid list (node_of body) (node_of (with_set_acl Default acl body))
+  keeps_default : (acl : Option AccessList) (body : Body) → says_one (λ x. x.default) list ≡ true → KeepsUnsaid list (node_of body) (node_of (with_set_acl Default acl body))
   keeps_default acl (File a old) said = all_kept list _
   keeps_default acl (Dir a d) said =
       record { bytes = λ u. refl; mode = λ u. refl; access = λ u. refl; default = said_so _ said; owner = λ u. refl; group = λ u. refl; times = λ u. refl; kind = refl; names = refl; target = refl }
@@ -104,11 +103,11 @@ keeps_times n keeps atime mtime ctime node = keeps_unless _ keeps (stamped atime
 abbrev of_open : Flags → List ℕ → List Alteration
 of_open f path = where_so f.create (adds_name path) ++ where_so f.trunc (resizes 0)
 
-says_added : (create trunc : Bool) (path : List ℕ) → create ≡ true → SaysOne is_added (where_so create (adds_name path) ++ where_so trunc (resizes 0))
+says_added : (create trunc : Bool) (path : List ℕ) → create ≡ true → says_one (λ x. x.added) (where_so create (adds_name path) ++ where_so trunc (resizes 0)) ≡ true
 says_added true trunc path is = refl
 says_added false trunc path is = absurd (let no : false ≡ true = is in cc)
 
-says_bytes : (create trunc : Bool) (path : List ℕ) → trunc ≡ true → list_any is_of_bytes (where_so create (adds_name path) ++ where_so trunc (resizes 0)) ≡ true
+says_bytes : (create trunc : Bool) (path : List ℕ) → trunc ≡ true → says_one (λ x. x.bytes) (where_so create (adds_name path) ++ where_so trunc (resizes 0)) ≡ true
 says_bytes create false path is = absurd (let no : false ≡ true = is in cc)
 says_bytes true true path is = refl
 says_bytes false true path is = refl

@@ -1,5 +1,5 @@
 -- What calls change of the machine's tree: no more than is said of them.
---     is_of_bytes, is_of_mode, ..        what an alteration is of
+--     Aspects, aspects_of, says_one        what an alteration is of, and what of several one is of
 --     KeepsUnsaid        in a node all else stays
 --     AltersOnly        a change of the tree is one of these
 --     LeavesUnsaid        the tree after an event
@@ -19,61 +19,52 @@ use Rattle.fuse_plans.specs.Alterations.{Alteration, resizes, resizes_open, writ
 
 -- ---- of what an alteration is
 
-abbrev pub is_of_bytes : Alteration → Bool
-is_of_bytes (resizes size) = true
-is_of_bytes (resizes_open pid fd size) = true
-is_of_bytes (writes_open pid fd) = true
-is_of_bytes alteration = false
+-- parts of a node, and names in a directory
+pub record Aspects : Type 0 where
+  pub bytes : Bool
+  -- and the list that decides on access
+  pub mode : Bool
+  pub default : Bool
+  pub owner : Bool
+  pub group : Bool
+  pub times : Bool
+  pub added : Bool
+  pub taken : Bool
+  pub moved : Bool
 
--- the mode, and the list that decides on access
-abbrev pub is_of_mode : Alteration → Bool
-is_of_mode sets_mode = true
-is_of_mode (sets_list Access) = true
-is_of_mode alteration = false
+abbrev pub no_aspect : Aspects
+no_aspect =
+    record { bytes = false; mode = false; default = false; owner = false; group = false; times = false; added = false; taken = false; moved = false }
 
-abbrev pub sets_default_list : Alteration → Bool
-sets_default_list (sets_list Default) = true
-sets_default_list alteration = false
+abbrev pub aspects_of : Alteration → Aspects
+aspects_of (resizes size) = record no_aspect { bytes = true }
+aspects_of (resizes_open pid fd size) = record no_aspect { bytes = true }
+aspects_of (writes_open pid fd) = record no_aspect { bytes = true }
+aspects_of sets_mode = record no_aspect { mode = true }
+aspects_of sets_owner = record no_aspect { owner = true }
+aspects_of sets_group = record no_aspect { group = true }
+aspects_of sets_times = record no_aspect { times = true }
+aspects_of (sets_list Access) = record no_aspect { mode = true }
+aspects_of (sets_list Default) = record no_aspect { default = true }
+aspects_of (adds_name path) = record no_aspect { added = true }
+aspects_of (takes_name path) = record no_aspect { taken = true }
+aspects_of (moves_name old new) = record no_aspect { moved = true }
 
-abbrev pub is_of_owner : Alteration → Bool
-is_of_owner sets_owner = true
-is_of_owner alteration = false
-
-abbrev pub is_of_group : Alteration → Bool
-is_of_group sets_group = true
-is_of_group alteration = false
-
-abbrev pub is_of_times : Alteration → Bool
-is_of_times sets_times = true
-is_of_times alteration = false
-
-abbrev pub is_added : Alteration → Bool
-is_added (adds_name path) = true
-is_added alteration = false
-
-abbrev pub is_taken : Alteration → Bool
-is_taken (takes_name path) = true
-is_taken alteration = false
-
-abbrev pub is_moved : Alteration → Bool
-is_moved (moves_name old new) = true
-is_moved alteration = false
-
--- one of them is so
-abbrev pub SaysOne : (Alteration → Bool) → List Alteration → Type 0
-SaysOne test alterations = IsTrue (list_any test alterations)
+-- one of them is of this
+abbrev pub says_one : (Aspects → Bool) → List Alteration → Bool
+says_one is_of alterations = list_any (λ a. is_of (aspects_of a)) alterations
 
 -- ---- trees
 
 -- The node that is rewritten keeps what isn't said, and its kind, its names and its target.
 pub record KeepsUnsaid (alterations : List Alteration) (old new : Node) : Type 0 where
-  pub bytes : IsFalse (list_any is_of_bytes alterations) → bytes_in new.body ≡ bytes_in old.body
-  pub mode : IsFalse (list_any is_of_mode alterations) → shown_mode new.body ≡ shown_mode old.body
-  pub access : IsFalse (list_any is_of_mode alterations) → acl_in new.body ≡ acl_in old.body
-  pub default : IsFalse (list_any sets_default_list alterations) → default_in new.body ≡ default_in old.body
-  pub owner : IsFalse (list_any is_of_owner alterations) → new.owner ≡ old.owner
-  pub group : IsFalse (list_any is_of_group alterations) → new.group ≡ old.group
-  pub times : IsFalse (list_any is_of_times alterations) → new.stamps ≡ old.stamps
+  pub bytes : IsFalse (says_one (λ x. x.bytes) alterations) → bytes_in new.body ≡ bytes_in old.body
+  pub mode : IsFalse (says_one (λ x. x.mode) alterations) → shown_mode new.body ≡ shown_mode old.body
+  pub access : IsFalse (says_one (λ x. x.mode) alterations) → acl_in new.body ≡ acl_in old.body
+  pub default : IsFalse (says_one (λ x. x.default) alterations) → default_in new.body ≡ default_in old.body
+  pub owner : IsFalse (says_one (λ x. x.owner) alterations) → new.owner ≡ old.owner
+  pub group : IsFalse (says_one (λ x. x.group) alterations) → new.group ≡ old.group
+  pub times : IsFalse (says_one (λ x. x.times) alterations) → new.stamps ≡ old.stamps
   pub kind : type_of new.body ≡ type_of old.body
   pub names : names_of_body new.body ≡ names_of_body old.body
   pub target : target_in new.body ≡ target_in old.body
@@ -81,10 +72,10 @@ pub record KeepsUnsaid (alterations : List Alteration) (old new : Node) : Type 0
 abbrev pub AltersOnly : List Alteration → Tree → Change → Type 0
 AltersOnly alterations t Same = Unit {0}
 AltersOnly alterations t (Rewrite touch n node) = KeepsUnsaid alterations (the_node t n) node
-AltersOnly alterations t (Make directory name n node) = SaysOne is_added alterations
-AltersOnly alterations t (AddName directory name n) = SaysOne is_added alterations
-AltersOnly alterations t (TakeName directory name) = SaysOne is_taken alterations
-AltersOnly alterations t (MoveName directory name to_directory to_name) = SaysOne is_moved alterations
+AltersOnly alterations t (Make directory name n node) = IsTrue (says_one (λ x. x.added) alterations)
+AltersOnly alterations t (AddName directory name n) = IsTrue (says_one (λ x. x.added) alterations)
+AltersOnly alterations t (TakeName directory name) = IsTrue (says_one (λ x. x.taken) alterations)
+AltersOnly alterations t (MoveName directory name to_directory to_name) = IsTrue (says_one (λ x. x.moved) alterations)
 
 -- The tree stays; or such a change is made of it, and then what has no name and isn't open any more is gone, and the times have
 -- moved that the change moves.
