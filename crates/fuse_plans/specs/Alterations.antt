@@ -18,6 +18,7 @@ use Rattle.fuse_plans.specs.Plans.{Plan, Finish, Ask}
 use Rattle.fuse_plans.specs.AclPlans.{acl_named}
 use Rattle.fuse_plans.specs.Conduct.{IsOfHandle}
 use Rattle.fuse_plans.specs.Flags.{is_trunc}
+use Rattle.fuse_plans.specs.Nobody.{changes_by_caller}
 
 -- ---- what a call may change
 
@@ -102,22 +103,11 @@ abbrev pub AreTold : Option Operation → List Alteration → Type 0
 AreTold operation [] = Unit {0}
 AreTold operation (alteration ∷ others) = IsToldIn operation alteration × AreTold operation others
 
--- requests that say a change
+-- requests that say a change, by a process of who asks or by what is open
 abbrev pub says_change : Operation → Bool
-says_change (SetAttr changes) = true
-says_change (SymLink name target) = true
-says_change (MkNod name mode umask) = true
-says_change (MkDir name mode umask) = true
-says_change (Unlink name) = true
-says_change (RmDir name) = true
-says_change (Rename name new_directory new_name flags) = true
-says_change (Link node name) = true
 says_change (Open flags) = is_trunc flags.0
 says_change (Write handle offset bytes) = true
-says_change (SetXAttr name value) = true
-says_change (RemoveXAttr name) = true
-says_change (Create name flags mode umask) = true
-says_change operation = false
+says_change operation = changes_by_caller operation
 
 abbrev pub says_change_in : Option Operation → Bool
 says_change_in None = false

@@ -1,4 +1,5 @@
 -- Who counts of those who ask: a first plan of each request, in which that doesn't count yet.
+--     changes_by_caller        what a process of who asks is to change
 --     needs_caller        what is done by a process of who asks, and what may fail for its credential
 --     needs_nobody        of an operation
 --     owns_object, is_owner        the user owns what is to be read
@@ -22,24 +23,28 @@ use Rattle.fuse_plans.specs.Callers.{the_number, the_server_process, look_inside
 use Rattle.fuse_plans.specs.Plans.{Plan, Finish, followed_by}
 use Rattle.fuse_plans.specs.Masks.{is_masked, seen_by_server_process}
 
+-- what a process of who asks is to change
+abbrev pub changes_by_caller : Operation → Bool
+changes_by_caller (SetAttr changes) = true
+changes_by_caller (SymLink name target) = true
+changes_by_caller (MkNod name mode umask) = true
+changes_by_caller (MkDir name mode umask) = true
+changes_by_caller (Unlink name) = true
+changes_by_caller (RmDir name) = true
+changes_by_caller (Rename name new_directory new_name flags) = true
+changes_by_caller (Link node name) = true
+changes_by_caller (SetXAttr name value) = true
+changes_by_caller (RemoveXAttr name) = true
+changes_by_caller (Create name flags mode umask) = true
+changes_by_caller _ = false
+
 -- what is done by a process of who asks, and what may fail for its credential
 abbrev pub needs_caller : Operation → Bool
 needs_caller (Lookup name) = true
-needs_caller (SetAttr changes) = true
-needs_caller (SymLink name target) = true
-needs_caller (MkNod name mode umask) = true
-needs_caller (MkDir name mode umask) = true
-needs_caller (Unlink name) = true
-needs_caller (RmDir name) = true
-needs_caller (Rename name new_directory new_name flags) = true
-needs_caller (Link node name) = true
 needs_caller (Open flags) = true
-needs_caller (SetXAttr name value) = true
-needs_caller (RemoveXAttr name) = true
 needs_caller OpenDir = true
 needs_caller (Access mask) = true
-needs_caller (Create name flags mode umask) = true
-needs_caller _ = false
+needs_caller operation = changes_by_caller operation
 
 -- ---- whether who asks doesn't count
 
