@@ -293,7 +293,8 @@ fn create_by<M: Machine>(
     file_mode: u32,
 ) -> Result<ReplyBody, RequestError>
     requires { 5 ≤ session.old.server.room }
-    ensures { Did M.Serves (create_by place.now place.name_valid pid place.dir_ino name way.mode way.flags.0 file_mode) session.old session.new result }
+    ensures { let plan = create_by place.now place.name_valid pid place.dir_ino name way.mode way.flags.0 file_mode in
+        Did M.Serves plan session.old session.new result }
 {
     let (opened, name) = open_or_make(
         &mut session.machine,
