@@ -100,34 +100,13 @@ fn read_path_command(name: &str, operands: Operands<'_>) -> Result<Event, LineFa
             let (pid, path, flags, mode) = operands.two_or(NEW_FILE_MODE)?;
             Ok(Event::Call(pid, Call::Open(path, flags, mode)))
         }
-        "stat" => {
-            let (pid, path) = operands.one()?;
-            Ok(Event::Call(pid, Call::Stat(path)))
-        }
-        "lstat" => {
-            let (pid, path) = operands.one()?;
-            Ok(Event::Call(pid, Call::Lstat(path)))
-        }
-        "access" => {
-            let (pid, path, want) = operands.two()?;
-            Ok(Event::Call(pid, Call::Access(path, want)))
-        }
-        "truncate" => {
-            let (pid, path, size) = operands.two()?;
-            Ok(Event::Call(pid, Call::Truncate(path, size)))
-        }
-        "chmod" => {
-            let (pid, path, mode) = operands.two()?;
-            Ok(Event::Call(pid, Call::Chmod(path, mode)))
-        }
-        "chown" => {
-            let (pid, path, owner, group) = operands.three()?;
-            Ok(Event::Call(pid, Call::Chown { path, owner, group }))
-        }
-        "getacl" => {
-            let (pid, path, which) = operands.two()?;
-            Ok(Event::Call(pid, Call::GetAcl(path, which)))
-        }
+        "stat" => operands.one_call(Call::Stat),
+        "lstat" => operands.one_call(Call::Lstat),
+        "access" => operands.two_call(Call::Access),
+        "truncate" => operands.two_call(Call::Truncate),
+        "chmod" => operands.two_call(Call::Chmod),
+        "chown" => { operands.three_call(|path, owner, group| Call::Chown { path, owner, group }) }
+        "getacl" => operands.two_call(Call::GetAcl),
         "setacl" => read_set_acl(operands),
         _ => read_descriptor_command(name, operands),
     }
@@ -140,39 +119,20 @@ fn read_descriptor_command(name: &str, operands: Operands<'_>) -> Result<Event, 
     ensures offered { IfOk result (λ e. IsTrue (is_of_machine e)) }
 {
     match name {
-        "read" => {
-            let (pid, fd, len): (usize, usize, usize) = operands.two()?;
-            let len = len.min(MAX_READ);
-            Ok(Event::Call(pid, Call::Read { fd, len }))
-        }
-        "write" => {
-            let (pid, fd, bytes) = operands.two()?;
-            Ok(Event::Call(pid, Call::Write(fd, bytes)))
-        }
-        "lseek" => {
-            let (pid, fd, whence, offset) = operands.three()?;
-            Ok(Event::Call(pid, Call::Lseek(fd, whence, offset)))
-        }
-        "close" => {
-            let (pid, fd) = operands.one()?;
-            Ok(Event::Call(pid, Call::Close(fd)))
-        }
-        "fstat" => {
-            let (pid, fd) = operands.one()?;
-            Ok(Event::Call(pid, Call::Fstat(fd)))
-        }
+        "read" => operands.two_call(|fd, len: usize| Call::Read {
+            fd,
+            len: len.min(MAX_READ),
+        }),
+        "write" => operands.two_call(Call::Write),
+        "lseek" => operands.three_call(Call::Lseek),
+        "close" => operands.one_call(Call::Close),
+        "fstat" => operands.one_call(Call::Fstat),
         "fsync" => {
             let (pid, fd) = operands.one()?;
             Ok(Event::Fsync { pid, fd })
         }
-        "ftruncate" => {
-            let (pid, fd, size) = operands.two()?;
-            Ok(Event::Call(pid, Call::Ftruncate(fd, size)))
-        }
-        "readdir" => {
-            let (pid, fd) = operands.one()?;
-            Ok(Event::Call(pid, Call::Readdir(fd)))
-        }
+        "ftruncate" => operands.two_call(Call::Ftruncate),
+        "readdir" => operands.one_call(Call::Readdir),
         _ => read_name_command(name, operands),
     }
 }
@@ -184,38 +144,14 @@ fn read_name_command(name: &str, operands: Operands<'_>) -> Result<Event, LineFa
     ensures offered { IfOk result (λ e. IsTrue (is_of_machine e)) }
 {
     match name {
-        "mkdir" => {
-            let (pid, path, mode) = operands.two()?;
-            Ok(Event::Call(pid, Call::Mkdir(path, mode)))
-        }
-        "rmdir" => {
-            let (pid, path) = operands.one()?;
-            Ok(Event::Call(pid, Call::Rmdir(path)))
-        }
-        "link" => {
-            let (pid, old, new) = operands.two()?;
-            Ok(Event::Call(pid, Call::Link { old, new }))
-        }
-        "symlink" => {
-            let (pid, target, path) = operands.two()?;
-            Ok(Event::Call(pid, Call::Symlink { target, path }))
-        }
-        "readlink" => {
-            let (pid, path) = operands.one()?;
-            Ok(Event::Call(pid, Call::Readlink(path)))
-        }
-        "unlink" => {
-            let (pid, path) = operands.one()?;
-            Ok(Event::Call(pid, Call::Unlink(path)))
-        }
-        "rename" => {
-            let (pid, old, new) = operands.two()?;
-            Ok(Event::Call(pid, Call::Rename { old, new }))
-        }
-        "chdir" => {
-            let (pid, path) = operands.one()?;
-            Ok(Event::Call(pid, Call::Chdir(path)))
-        }
+        "mkdir" => operands.two_call(Call::Mkdir),
+        "rmdir" => operands.one_call(Call::Rmdir),
+        "link" => operands.two_call(|old, new| Call::Link { old, new }),
+        "symlink" => operands.two_call(|target, path| Call::Symlink { target, path }),
+        "readlink" => operands.one_call(Call::Readlink),
+        "unlink" => operands.one_call(Call::Unlink),
+        "rename" => operands.two_call(|old, new| Call::Rename { old, new }),
+        "chdir" => operands.one_call(Call::Chdir),
         _ => read_process_command(name, operands),
     }
 }
@@ -226,10 +162,7 @@ fn read_process_command(name: &str, operands: Operands<'_>) -> Result<Event, Lin
     ensures offered { IfOk result (λ e. IsTrue (is_of_machine e)) }
 {
     match name {
-        "umask" => {
-            let (pid, mask) = operands.one()?;
-            Ok(Event::Call(pid, Call::Umask(mask)))
-        }
+        "umask" => operands.one_call(Call::Umask),
         "exit" => {
             let pid = operands.none()?;
             Ok(Event::Exit(pid))

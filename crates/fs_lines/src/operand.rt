@@ -1,10 +1,13 @@
 //! The words behind a command, by the values that they say.
-ghost use Rattle.std.specs.Prelude.{◌≡◌, [], ℕ, List, Ok, Err, IfOk, IfErr, Result, ok_or};
+ghost use Rattle.std.specs.Prelude.{◌≡◌, [], ℕ, List, Ok, Err, IfOk, IfErr, IsTrue, Result, ok_or};
 ghost use Rattle.std.specs.List.{slice_get};
 ghost use Rattle.fs_lines.specs.declared.line.LineFault.{LineFault as Fault};
 ghost use Rattle.fs_lines.specs.declared.line.LineFault.TheVariants.{WordCount};
 ghost use Rattle.fs_lines.specs.Commands.{said_at, said_of_or, none_said, one_said, two_said, three_said, two_or_said};
-ghost use Rattle.fs_lines.specs.Readings.{Gives};
+ghost use Rattle.fs_model.specs.Steps.{is_of_machine};
+ghost use Rattle.fs_lines.specs.declared.line.Line.TheVariants.{Event as Asks};
+ghost use Rattle.fs_lines.specs.BehindPid.{one_call, two_call, three_call};
+ghost use Rattle.fs_lines.specs.Readings.{Gives, GivesSaid};
 
 use crate::forms::{
     read_acl_type, read_flags, read_groups, read_id, read_kept_id, read_mode, read_number,
@@ -12,7 +15,7 @@ use crate::forms::{
 };
 use crate::line::LineFault;
 use crate::words::Word;
-use fs_model::{AclType, ByteString, Flags, Whence};
+use fs_model::{AclType, ByteString, Call, Event, Flags, Whence};
 use posix_acl::Perms;
 use std::alloc::Global;
 use std::marker::Model;
@@ -232,6 +235,19 @@ impl Operands<'_> {
         Ok((pid, operand_at(self.alloc, self.words, 0)?))
     }
 
+    /// The call that a word makes.
+    pub fn one_call<A: Operand, F: FnOnce(A) -> Call>(self, call: F) -> Result<Event, LineFault>
+        requires { F.IsAlwaysCallable call }
+        ensures said { (says : A → Call) → ((a : A) (made : Call) → F.post call a made → made ≡ says a)
+            → GivesSaid Asks result (one_call A.said says self.entry.pid self.entry.words.now) }
+        ensures offered { IfOk result (λ e. IsTrue (is_of_machine e)) }
+    {
+        match self.one() {
+            Ok((pid, first)) => Ok(Event::Call(pid, call(first))),
+            Err(fault) => Err(fault),
+        }
+    }
+
     /// The pid and two words.
     pub fn two<A: Operand, B: Operand>(self) -> Result<(usize, A, B), LineFault>
         ensures { Gives (λ x. x) result (two_said A.said B.said self.entry.pid self.entry.words.now) }
@@ -243,6 +259,22 @@ impl Operands<'_> {
         let first = operand_at(self.alloc, self.words, 0)?;
         let second = operand_at(self.alloc, self.words, 1)?;
         Ok((pid, first, second))
+    }
+
+    /// The call that two words make.
+    pub fn two_call<A: Operand, B: Operand, F: FnOnce(A, B) -> Call>(
+        self,
+        call: F,
+    ) -> Result<Event, LineFault>
+        requires { F.IsAlwaysCallable call }
+        ensures said { (says : A → B → Call) → ((a : A) (b : B) (made : Call) → F.post call a b made → made ≡ says a b)
+            → GivesSaid Asks result (two_call A.said B.said says self.entry.pid self.entry.words.now) }
+        ensures offered { IfOk result (λ e. IsTrue (is_of_machine e)) }
+    {
+        match self.two() {
+            Ok((pid, first, second)) => Ok(Event::Call(pid, call(first, second))),
+            Err(fault) => Err(fault),
+        }
     }
 
     /// The pid and three words.
@@ -257,6 +289,22 @@ impl Operands<'_> {
         let second = operand_at(self.alloc, self.words, 1)?;
         let third = operand_at(self.alloc, self.words, 2)?;
         Ok((pid, first, second, third))
+    }
+
+    /// The call that three words make.
+    pub fn three_call<A: Operand, B: Operand, C: Operand, F: FnOnce(A, B, C) -> Call>(
+        self,
+        call: F,
+    ) -> Result<Event, LineFault>
+        requires { F.IsAlwaysCallable call }
+        ensures said { (says : A → B → C → Call) → ((a : A) (b : B) (c : C) (made : Call) → F.post call a b c made → made ≡ says a b c)
+            → GivesSaid Asks result (three_call A.said B.said C.said says self.entry.pid self.entry.words.now) }
+        ensures offered { IfOk result (λ e. IsTrue (is_of_machine e)) }
+    {
+        match self.three() {
+            Ok((pid, first, second, third)) => Ok(Event::Call(pid, call(first, second, third))),
+            Err(fault) => Err(fault),
+        }
     }
 
     /// The pid and three words, the last of which may be left out.
