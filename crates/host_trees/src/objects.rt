@@ -5,13 +5,13 @@ use crate::asker::Asker;
 use crate::entry::{Entry, OF_DIRECTORIES};
 use crate::file_system::FileSystem;
 use crate::lack::Lack;
-use crate::place::Place;
+use crate::place::{Opened, Place};
 use crate::replies::status_in;
 use crate::times::Times;
 use crate::work::{Made, Pending, Work, hand_for, path_of};
 use crate::writing::write_contents;
 use fs_layout::ROOT;
-use fs_model::{Call, Event, Flags, Path};
+use fs_model::{Call, Event, Path};
 use std::alloc::Global;
 use std::fs;
 use std::io::Read;
@@ -47,22 +47,8 @@ pub(crate) fn pack_file<R: Files, M: FileSystem>(
     let mut file = fs::open(rt, object.host.as_str())?;
     let pid = hand_for(asker, work, entry.owner)?;
     let place = place_of(work, pid, object);
-    let fd = place.open(asker, new_file_flags(), entry.file_mode())?;
+    let fd = place.open(asker, Opened::NewFile, entry.file_mode())?;
     fill_file(asker, work, pid, fd, &mut file, entry)
-}
-
-// A new file is opened for writing.
-fn new_file_flags() -> Flags {
-    Flags {
-        read: false,
-        write: true,
-        create: true,
-        excl: true,
-        trunc: false,
-        append: false,
-        nofollow: false,
-        directory: false,
-    }
 }
 
 // Gives an open file its bytes and its times, and closes it.

@@ -17,6 +17,31 @@ pub(crate) struct Place<'a> {
     pub(crate) inside: &'a [u8],
 }
 
+/// What is opened.
+#[derive(Clone, Copy)]
+pub(crate) enum Opened {
+    File,
+    Directory,
+    NewFile,
+}
+
+impl Opened {
+    // A new file is opened for writing, and all else for reading, unless it is a link.
+    fn flags(self) -> Flags {
+        let new = matches!(self, Opened::NewFile);
+        Flags {
+            read: !new,
+            write: new,
+            create: new,
+            excl: new,
+            trunc: false,
+            append: false,
+            nofollow: !new,
+            directory: matches!(self, Opened::Directory),
+        }
+    }
+}
+
 impl Place<'_> {
     /// The path.
     pub(crate) fn path(self) -> Result<Path, AllocError> {
@@ -47,12 +72,12 @@ impl Place<'_> {
     pub(crate) fn open<M: FileSystem>(
         self,
         asker: &mut Asker<M>,
-        flags: Flags,
+        opened: Opened,
         mode: u16,
     ) -> Result<usize, Lack>
         ensures { Asks M.Serves asker.old.machine asker.new.machine asker.old.is_whole asker.new.is_whole }
     {
         let path = self.path()?;
-        fd_in(asker.call(self.pid, Call::Open(path, flags, mode))?)
+        fd_in(asker.call(self.pid, Call::Open(path, opened.flags(), mode))?)
     }
 }

@@ -7,12 +7,12 @@ use crate::fault::{Copied, CopyFault};
 use crate::file_system::FileSystem;
 use crate::lack::Lack;
 use crate::lists::{Grants, grants_of};
-use crate::place::Place;
+use crate::place::{Opened, Place};
 use crate::replies::{listing_in, pid_in, stamps_in, target_in};
 use crate::times::file_times;
 use crate::writing::read_contents;
 use fs_cred::Cred;
-use fs_model::{Call, Event, FileType, Flags, Listing, Named, Path, Stamps, Status};
+use fs_model::{Call, Event, FileType, Listing, Named, Path, Stamps, Status};
 use std::alloc::{AllocError, Global};
 use std::collections::BTreeMap;
 use std::fs::{self, DirBuilder, OpenFile, OpenOptions, Permissions};
@@ -420,9 +420,7 @@ fn read_file<F: Write, M: FileSystem>(
 ) -> Result<(), Lack>
     ensures { Asks M.Serves asker.old.machine asker.new.machine asker.old.is_whole asker.new.is_whole }
 {
-    let fd = work
-        .place(&object.inside)
-        .open(asker, for_reading(false), 0)?;
+    let fd = work.place(&object.inside).open(asker, Opened::File, 0)?;
     let read = read_contents(asker, work.pid, fd, file);
     let closed = asker.perform(work.pid, Call::Close(fd));
     read.and(closed)
@@ -469,21 +467,7 @@ fn make_link<R: Files>(rt: &R, target: &Path, host: &str) -> Result<(), Lack> {
     }
 }
 
-// ---- opening
-
-// A file or a directory is opened for reading.
-fn for_reading(directory: bool) -> Flags {
-    Flags {
-        read: true,
-        write: false,
-        create: false,
-        excl: false,
-        trunc: false,
-        append: false,
-        nofollow: true,
-        directory,
-    }
-}
+// ---- the names of a directory
 
 // The path of a directory, also of the root.
 fn path_or_root(inside: &[u8]) -> &[u8] {
@@ -499,7 +483,7 @@ fn listing_of<M: FileSystem>(
     ensures { Asks M.Serves asker.old.machine asker.new.machine asker.old.is_whole asker.new.is_whole }
 {
     let place = work.place(path_or_root(&directory.inside));
-    let fd = place.open(asker, for_reading(true), 0)?;
+    let fd = place.open(asker, Opened::Directory, 0)?;
     let listed = asker.call(work.pid, Call::Readdir(fd));
     let closed = asker.perform(work.pid, Call::Close(fd));
     match closed.and(listed) {
