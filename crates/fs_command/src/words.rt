@@ -38,7 +38,7 @@ const STATUSES: &str =
 Status: 0 done, 1 a line's fault or a finding, 2 bad words, 3 every other fault.";
 
 /// A text of the command line.
-#[derive(Debug, Drop)]
+#[derive(Drop)]
 pub struct Text {
     text: String,
 }
@@ -70,7 +70,7 @@ impl Text {
 }
 
 /// What the program is asked to do.
-#[derive(Debug, Drop)]
+#[derive(Drop)]
 pub enum Job {
     /// To run the script on the standard input, on a new disk in memory.
     Memory,
