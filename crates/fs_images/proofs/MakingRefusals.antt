@@ -1,6 +1,6 @@
 -- What mkfs refuses, from its tests one by one.
 use Rattle.std.proofs.Common.{◌≡◌, ℕ, ◌+◌, ◌<◌, ◌≤◌, Bool, true, false, cond, not, nat_lt, Option, Some, None, refl, sym, ap, ◌∙◌, arith}
-use Rattle.std.specs.Prelude.{MatchResult}
+use Rattle.std.specs.Prelude.{MatchResult, IfSome}
 use Rattle.std.specs.Option.{ok_or}
 use Rattle.std.proofs.lemmas.Bool.{le-leb}
 use Rattle.std.proofs.lemmas.Bool.Decides.{nat_tests}
@@ -8,9 +8,9 @@ use Rattle.fs_layout.specs.declared.geometry.Geometry.{Geometry}
 use Rattle.fs_layout.specs.declared.version.Version.{Version}
 use Rattle.fs_layout.specs.Version.{max_sectors, max_inodes}
 use Rattle.fs_layout.specs.Geometry.{allows_header, are_in_range, laid_out, new_header, geometry_in, the_geometry}
-use Rattle.fs_layout.proofs.Places.{new_header_allowed}
+use Rattle.fs_layout.proofs.Places.{new_header_allowed, geometry_is_laid_out}
 use Rattle.fs_images.specs.declared.faults.MkfsFault.TheVariants.{BadSize, BadInodes, TooSmall}
-use Rattle.fs_images.specs.Making.{is_out_of, mkfs_refusal}
+use Rattle.fs_images.specs.Making.{IsNewLayout, is_out_of, mkfs_refusal}
 
 -- ---- one number
 pub is_below : (least most n : ℕ) → n < least → is_out_of least most n ≡ true
@@ -94,3 +94,10 @@ geometry_or_too_small version sectors inodes fit (Some p) e = (
       ∙ some_then (is_full version sectors inodes) (laid_out version sectors inodes) p (e ∙ last_test version sectors inodes fit),
   sym e,
 )
+
+-- ---- layouts
+-- a new disk has the layout that follows from its version and its numbers
+pub layouts_are_new : (version : Version) (sectors inodes : ℕ) (layout : Option Geometry) → layout ≡ the_geometry version sectors inodes → IfSome layout IsNewLayout
+layouts_are_new version sectors inodes None is = tt
+layouts_are_new version sectors inodes (Some geometry) is =
+    ap (λ (p : Geometry). the_geometry p.version p.sectors p.inodes) (geometry_is_laid_out sectors inodes (sym is)) ∙ sym is

@@ -1,5 +1,6 @@
 -- What mkfs makes, and what it refuses.
 --     is_out_of, mkfs_refusal        a number out of its range; the first refusal
+--     IsNewLayout        the layout of a new disk
 --     IsDeviceFault        it failed since the device did
 --     IsNewDisk        the image of a new disk
 --     HasNoSuperblock, IsHalfCleared, IsHalfDone, IsHalfMade        what a stop may leave meanwhile
@@ -30,6 +31,10 @@ mkfs_refusal version sectors inodes =
     if is_out_of 1024 (max_sectors version) sectors then Some BadSize else
     (if is_out_of 16 (max_inodes version) inodes then Some BadInodes else
     (if nat_lt sectors ((laid_out version sectors inodes).first_data + 64) then Some TooSmall else None))
+
+-- a new disk with these numbers has this layout
+abbrev pub IsNewLayout : Geometry → Type 0
+IsNewLayout geometry = the_geometry geometry.version geometry.sectors geometry.inodes ≡ Some geometry
 
 -- the device has failed since
 abbrev pub IsDeviceFault : DiskState → DiskState → MkfsFault → Type 0

@@ -9,5 +9,5 @@ mod new_tables;
 mod upgrading;
 
 pub use faults::{MkfsFault, UpgradeFault};
-pub use new_disk::mkfs;
+pub use new_disk::{mkfs, newest_layout, older_layout};
 pub use upgrading::upgrade;

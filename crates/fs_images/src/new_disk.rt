@@ -1,10 +1,10 @@
 //! Making a new file system.
 
-ghost use Rattle.std.specs.Prelude.{◌≡◌, ◌≤◌, ◌<◌, Some, None, Err, IfErr, OnOk, MatchResult};
+ghost use Rattle.std.specs.Prelude.{◌≡◌, ◌≤◌, ◌<◌, Some, None, Err, IfErr, IfSome, OnOk, MatchResult};
 ghost use Rattle.sector_disk.specs.Disk.{AddsOnly, HasCause, IsImageOr, IsStable, LeavesOnly, sector};
 ghost use Rattle.fs_layout.specs.Geometry.{IsGeometry, super_for, the_geometry};
 ghost use Rattle.fs_layout.specs.Superblock.{super_bytes};
-ghost use Rattle.fs_images.specs.Making.{BehindSuperblock, HasNoSuperblock, HoldsNewTables, IsCleared, IsDeviceFault, IsHalfCleared, IsHalfDone, IsHalfMade, IsNewDisk, IsPrepared, mkfs_refusal};
+ghost use Rattle.fs_images.specs.Making.{BehindSuperblock, HasNoSuperblock, HoldsNewTables, IsCleared, IsDeviceFault, IsHalfCleared, IsHalfDone, IsHalfMade, IsNewDisk, IsNewLayout, IsPrepared, mkfs_refusal};
 
 use crate::MkfsFault;
 use crate::new_tables::table_sector;
@@ -12,6 +12,22 @@ use fs_layout::{COMMIT_SECTOR, Commit, Geometry, Super, Version, geometry_of};
 use sector_disk::{Disk, DiskFault, write_synced};
 
 const SUPERBLOCK: u32 = 0;
+
+/// The layout of a new image for programs that know no version but 1 and 2. None where it may not have these numbers.
+pub fn older_layout(sectors: u32, inodes: u32) -> Option<Geometry>
+    ensures value { result ≡ the_geometry Version.Two sectors inodes }
+    ensures of_new_disk { IfSome result IsNewLayout }
+{
+    geometry_of(Version::Two, sectors, inodes)
+}
+
+/// The layout of any other new image. None where it may not have these numbers.
+pub fn newest_layout(sectors: u32, inodes: u32) -> Option<Geometry>
+    ensures value { result ≡ the_geometry Version.Three sectors inodes }
+    ensures of_new_disk { IfSome result IsNewLayout }
+{
+    geometry_of(Version::Three, sectors, inodes)
+}
 
 /// Makes a file system of this version with so many inodes on the disk, whose root is an empty directory of user 0, 0755.
 ///

@@ -1,1 +1,2 @@
+pub mod InfoTexts
 pub mod Infos

@@ -1,17 +1,17 @@
 -- How jobs end, from what their parts say.
-use Rattle.std.proofs.Common.{◌≡◌, inl, inr, ℕ, List, None, Some, Result, Ok, Err, sym, ap, subst, ◌∙◌}
+use Rattle.std.proofs.Common.{◌≡◌, ◌≤◌, arith, inl, inr, ℕ, List, None, Some, Option, Result, Ok, Err, refl, sym, ap, subst, ◌∙◌}
 use Rattle.std.specs.Prelude.{OnOk, IsTrue, is_ok, if◌then◌else◌}
 use Rattle.std.specs.Io.KnownBytes.{Appends}
 use Rattle.sector_disk.specs.Disk.{DiskState}
 use Rattle.fs_layout.specs.declared.geometry.Geometry.{Geometry}
 use Rattle.fs_layout.specs.declared.version.Version.{Version}
 use Rattle.fs_layout.specs.Geometry.{IsGeometry, laid_out, new_header, the_geometry}
-use Rattle.fs_layout.proofs.Places.{geometry_is_laid_out, is_a_geometry}
+use Rattle.fs_layout.proofs.Places.{geometry_is_laid_out, is_a_geometry, numbers_most}
 use Rattle.fs_model.specs.States.{State}
 use Rattle.fs_model.specs.declared.event.Event.TheVariants.{Sync}
 use Rattle.fs_model.specs.declared.reply.Reply.{Reply}
 use Rattle.fs_system.specs.Doing.{Does, HappensLast}
-use Rattle.fs_images.specs.Making.{mkfs_refusal}
+use Rattle.fs_images.specs.Making.{IsNewLayout, mkfs_refusal}
 use Rattle.fs_system.specs.Playing.{HasDisk, IsConfig}
 use Rattle.fs_system.specs.Histories.{Config, Up, Off}
 use Rattle.fs_system.specs.Mounts.{Mounts}
@@ -36,13 +36,21 @@ tells w line (Err e) status told wrote is = inr (ap Ok is)
 
 -- ---- a layout
 
+-- none is known where there is none
+pub no_layout : (layout : Option Geometry) → ((geometry : Geometry) → layout ≡ Some geometry → ⊥) → layout ≡ None
+no_layout None none = refl
+no_layout (Some geometry) none = absurd (none geometry refl)
+
+-- no disk has more sectors than the most of all versions
+pub sectors_most : {geometry : Geometry} → IsNewLayout geometry → geometry.sectors ≤ 16777217
+sectors_most {geometry} has =
+    let most = (numbers_most (is_a_geometry geometry.version (new_header geometry.version geometry.sectors geometry.inodes) geometry.sectors geometry.inodes has)).0 in
+    omega (arith, most)
+
 -- a disk of so many sectors has it
-pub placed : (version : Version) (sectors inodes size : ℕ) (geometry : Geometry) → the_geometry version sectors inodes ≡ Some geometry → size ≡ geometry.sectors
+pub placed : {geometry : Geometry} {size : ℕ} → IsNewLayout geometry → size ≡ geometry.sectors
     → the_geometry geometry.version size geometry.inodes ≡ Some geometry
-placed version sectors inodes size geometry has same =
-    let is = geometry_is_laid_out sectors inodes has in
-    ap (λ (p : Geometry). the_geometry p.version size p.inodes) is
-    ∙ ap (λ (n : ℕ). the_geometry version n inodes) (same ∙ ap (λ (p : Geometry). p.sectors) is) ∙ has
+placed {geometry} {size} has same = rw same has
 
 -- where there is one, mkfs refuses nothing
 pub refuses_nothing : (version : Version) (sectors inodes : ℕ) (geometry : Geometry) → the_geometry version sectors inodes ≡ Some geometry

@@ -26,6 +26,7 @@ use Rattle.fs_check.specs.declared.faults.CheckFault.TheVariants.{Found, DiskFau
 use Rattle.fs_check.specs.declared.faults.Finding.{Finding}
 use Rattle.fs_check.specs.declared.faults.Summary.{Summary}
 use Rattle.fs_info.specs.Infos.{IsInfo, IsWhyNoInfo as IsInfoReason}
+use Rattle.fs_info.specs.InfoTexts.{info_text}
 use Rattle.fs_info.specs.declared.faults.InfoFault.{InfoFault}
 use Rattle.fs_info.specs.declared.info.Info.{Info}
 use Rattle.fs_system.specs.Doing.{Does}
@@ -49,7 +50,6 @@ use Rattle.fs_program.specs.Programs.{RunsInMemory}
 use Rattle.fs_command.specs.Statuses.{code_of, status_of}
 use Rattle.fs_program.specs.Streams.{Reading, Writing}
 use Rattle.fs_program.specs.Unmounts.{unmount_end}
-use Rattle.fs_program.specs.InfoTexts.{info_text}
 use Rattle.fs_program.specs.Texts.{made_text, clean_text, found_text, version_text}
 use Rattle.fs_command.specs.Words.{AsksFor, Refuses, words_status}
 use Rattle.fs_program.specs.declared.failure.Failure.{Failure}

@@ -7,4 +7,3 @@ pub mod Programs
 pub mod Streams
 pub mod Unmounts
 pub mod Texts
-pub mod InfoTexts

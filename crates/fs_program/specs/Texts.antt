@@ -10,6 +10,7 @@ use Rattle.fs_layout.specs.declared.version.Version.{Version}
 use Rattle.fs_layout.specs.Version.{version_number}
 use Rattle.fs_check.specs.declared.faults.Finding.{Finding}
 use Rattle.fs_check.specs.declared.faults.Summary.{Summary}
+use Rattle.fs_info.specs.InfoTexts.{yes_text}
 use Rattle.fs_program.specs.Explanations.{explanation_text}
 
 abbrev pub made_text : Geometry → List ℕ
@@ -23,9 +24,6 @@ kinds_text s = codes "clean files " ++ decimal s.files ++ codes " dirs " ++ deci
 abbrev pub room_text : Summary → List ℕ
 room_text s =
     codes " nameless " ++ decimal s.nameless ++ codes " blocks " ++ decimal s.blocks ++ codes " inodes " ++ decimal s.inodes
-
-abbrev pub yes_text : Bool → List ℕ
-yes_text b = if b then codes "yes" else codes "no"
 
 abbrev pub clean_text : Summary → List ℕ
 clean_text s = kinds_text s ++ room_text s ++ (codes " pending " ++ yes_text s.pending ++ codes "\n")

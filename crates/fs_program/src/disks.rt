@@ -5,11 +5,11 @@ ghost use Rattle.std.specs.Io.KnownBytes.{Appends};
 ghost use Rattle.sector_disk.specs.Disk.{LeavesOnly, OnlyReads};
 ghost use Rattle.fs_layout.specs.Geometry.{IsGeometry, the_geometry};
 ghost use Rattle.fs_images.specs.Upgrading.{IsHalfUpgraded};
-ghost use Rattle.fs_program.specs.Jobs.{IsOfRule, IsCheckTold, MkfsEnds, RunEnds, CheckEnds, UpgradeEnds, ended, run_status};
+ghost use Rattle.fs_program.specs.Jobs.{IsOfRule, IsCheckTold, MkfsEnds, RunEnds, CheckEnds, InfoEnds, UpgradeEnds, ended, run_status};
 ghost use Rattle.fs_program.specs.Streams.{reading, writing};
 ghost use Rattle.fs_program.specs.Unmounts.{unmount_end};
 ghost use Rattle.fs_system.specs.Replies.{unmounted};
-ghost use Rattle.fs_program.specs.Texts.{made_text, kinds_text, room_text, yes_text, clean_text, finding_text, found_text, version_text};
+ghost use Rattle.fs_program.specs.Texts.{made_text, kinds_text, room_text, clean_text, finding_text, found_text, version_text};
 
 use crate::explaining::print_explanation;
 use crate::failure::Failure;
@@ -17,6 +17,7 @@ use fs_check::{CheckFault, Finding, Summary, check};
 use fs_command::Status;
 use fs_cred::Errno;
 use fs_images::{mkfs, upgrade};
+use fs_info::{print_info, read_info, yes_or_no};
 use fs_layout::{Geometry, Version};
 use fs_shell::{Count, RunFault, Watched, run};
 use fs_system::Fs;
@@ -219,10 +220,21 @@ fn print_room<O: Write>(summary: &Summary, out: &mut O) -> io::Result<()>
     )
 }
 
-pub(crate) fn yes_or_no(yes: bool) -> &'static str
-    ensures { result.now ≡ yes_text yes }
+// ---- what a disk says of itself
+
+/// Prints what a disk says of itself, a line each, or as a JSON object.
+pub(crate) fn describe_disk<D: Disk, O: Write>(
+    disk: &mut D,
+    json: bool,
+    out: &mut Watched<O>,
+) -> Result<Status, Failure>
+    ensures reads { OnlyReads (D.state disk.old) (D.state disk.new) }
+    ensures ends { InfoEnds (D.state disk.old) (D.state disk.new) json (writing O.contents out.old out.new) result }
 {
-    if yes { "yes" } else { "no" }
+    match read_info(disk) {
+        Ok(info) => Ok(written(print_info(&info, json, out), Status::Done)),
+        Err(fault) => Err(Failure::Info(fault)),
+    }
 }
 
 // ---- upgrading

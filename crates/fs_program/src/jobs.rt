@@ -1,8 +1,10 @@
 //! What the program does for its words.
 
-ghost use Rattle.std.specs.Prelude.{◌≡◌, ◌⊎◌, ◌≤◌, map, string_bytes, MatchResult, Err, IfErr, IfOk, IfSome, IsSome};
+ghost use Rattle.std.specs.Prelude.{◌≡◌, ◌⊎◌, ◌≤◌, ℕ, map, string_bytes, MatchResult, Err, IfErr, IfOk, IfSome, IsSome};
 ghost use Rattle.std.specs.Option.{option_copied};
 ghost use Rattle.sector_disk.specs.Disk.{IsFresh};
+ghost use Rattle.fs_layout.specs.Geometry.{the_geometry};
+ghost use Rattle.fs_images.specs.Making.{IsNewLayout};
 ghost use Rattle.fs_program.specs.Jobs.{HasChecked, ImageMkfsEnds, ImageRunEnds, ImageCheckEnds, ImageInfoEnds, ImageUpgradeEnds, JobEnds, ProgramEnds};
 ghost use Rattle.fs_program.specs.Copying.{ImagePackEnds, ImageUnpackEnds};
 ghost use Rattle.fs_program.specs.Serving.{ImageFuseEnds};
@@ -11,17 +13,16 @@ ghost use Rattle.fs_command.specs.Words.{words_status};
 
 use crate::copying::{pack_on_disk, unpack_on_disk};
 use crate::denials::DenialList;
-use crate::describing::describe_disk;
 use crate::disks::{
-    check_disk, finish, make_on_disk, run_on_disk, tell_check, upgrade_disk, written,
+    check_disk, describe_disk, finish, make_on_disk, run_on_disk, tell_check, upgrade_disk, written,
 };
 use crate::failure::Failure;
 use crate::memory::run_in_memory;
 use crate::served::serve_on_disk;
 use fs_check::{CheckFault, Summary, check, load};
 use fs_command::{Job, Status, Text, WordsFault, parse_words};
-use fs_images::MkfsFault;
-use fs_layout::{Version, geometry_of};
+use fs_images::{MkfsFault, newest_layout, older_layout};
+use fs_layout::{Geometry, Version};
 use fs_shell::Watched;
 use fuse_serving::Standard;
 use host_trees::{CopyFault, Given};
@@ -89,12 +90,12 @@ fn perform_job<
             image,
             sectors,
             inodes,
-        } => make_image(rt, image, Version::Two, *sectors, *inodes, out),
+        } => make_image(rt, image, older_layout(*sectors, *inodes), out),
         Job::Format {
             image,
             sectors,
             inodes,
-        } => make_image(rt, image, Version::Three, *sectors, *inodes, out),
+        } => make_image(rt, image, newest_layout(*sectors, *inodes), out),
         Job::Pack {
             image,
             from,
@@ -107,7 +108,8 @@ fn perform_job<
                 user: *user,
                 group: *group,
             };
-            pack_image(rt, image, from, *sectors, *inodes, given, err)
+            let layout = newest_layout(*sectors, *inodes);
+            pack_image(rt, image, from, layout, given, err)
         }
         Job::Unpack { image, to } => unpack_image(rt, image, to, err),
         Job::Run { image, script } => run_image(rt, image, script.as_ref(), input, out, err),
@@ -122,18 +124,18 @@ fn perform_job<
     }
 }
 
-// Where so many inodes leave too few sectors for data, no file is made.
+// Makes an image of this layout. Where there is none, since so many inodes leave too few sectors for data, no file is made.
 fn make_image<R: Files<File: DiskFile> + AllocGlobal, O: Write>(
     rt: &R,
     image: &Text,
-    version: Version,
-    sectors: u32,
-    inodes: u32,
+    layout: Option<Geometry>,
     out: &mut Watched<O>,
 ) -> Result<Status, Failure>
-    ensures { ImageMkfsEnds ⟦<FileDisk<R::File> as Disk>⟧.state version sectors inodes (writing O.contents out.old out.new) result }
+    requires { IfSome layout IsNewLayout }
+    ensures { (version : Version) (sectors inodes : ℕ) → layout ≡ the_geometry version sectors inodes
+        → ImageMkfsEnds ⟦<FileDisk<R::File> as Disk>⟧.state version sectors inodes (writing O.contents out.old out.new) result }
 {
-    let Some(geometry) = geometry_of(version, sectors, inodes) else {
+    let Some(geometry) = layout else {
         return Err(Failure::Mkfs(MkfsFault::TooSmall));
     };
     match create_image(rt, image, geometry.sectors) {
@@ -142,19 +144,20 @@ fn make_image<R: Files<File: DiskFile> + AllocGlobal, O: Write>(
     }
 }
 
-// Makes an image of the third layout with the tree of a directory. Where that is none no file is made.
+// Makes an image of this layout with the tree of a directory. Where that is none no file is made.
 fn pack_image<R: Files<File: DiskFile> + AllocGlobal, E: Write>(
     rt: &R,
     image: &Text,
     from: &Text,
-    sectors: u32,
-    inodes: u32,
+    layout: Option<Geometry>,
     given: Given,
     err: &mut E,
 ) -> Result<Status, Failure>
-    ensures { ImagePackEnds ⟦<FileDisk<R::File> as Disk>⟧.state sectors inodes result }
+    requires { IfSome layout IsNewLayout }
+    ensures { (sectors inodes : ℕ) → layout ≡ the_geometry Version.Three sectors inodes
+        → ImagePackEnds ⟦<FileDisk<R::File> as Disk>⟧.state sectors inodes result }
 {
-    let Some(geometry) = geometry_of(Version::Three, sectors, inodes) else {
+    let Some(geometry) = layout else {
         return Err(Failure::Mkfs(MkfsFault::TooSmall));
     };
     if !is_directory(rt, from.as_str()) {

@@ -5,7 +5,6 @@
 
 mod copying;
 mod denials;
-mod describing;
 mod disks;
 mod explaining;
 mod failure;

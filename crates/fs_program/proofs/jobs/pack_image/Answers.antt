@@ -1,24 +1,27 @@
-use Rattle.std.proofs.Common.{◌∙◌, Err, inl, inr, sym, ap, arith}
+use Rattle.std.proofs.Common.{◌∙◌, Err, inl, inr, refl, sym, ap}
 use Rattle.fs_layout.specs.declared.geometry.Geometry.{Geometry}
-use Rattle.fs_layout.specs.declared.version.Version.TheVariants.{Three}
-use Rattle.fs_layout.proofs.Places.{numbers_most, geometry_is_laid_out}
-use Rattle.fs_program.specs.Copying.{cannot_create, is_there, packs}
-use Rattle.fs_program.proofs.Ends.{placed}
+use Rattle.fs_layout.proofs.Places.{geometry_is_laid_out}
+use Rattle.fs_program.specs.Copying.{cannot_create, has_no_directory, has_no_geometry, is_there, packs}
+use Rattle.fs_program.proofs.Ends.{no_layout, placed, sectors_most}
 use Rattle.fs_program.proofs.jobs.pack_image.Goals as goal
 
 pub create_image-requires : goal.create_image-requires
-create_image-requires g c = let most = (numbers_most c.in-Some.ensures.room).0 in omega (arith, most)
+create_image-requires g c = sectors_most (rw c.in-Some.is at c.requires)
 
 pub pack_on_disk-requires : goal.pack_on_disk-requires
-pack_on_disk-requires g c = placed Three c.args.sectors c.args.inodes _ c.in-Some.geometry (sym c.in-Some.ensures.value) c.in-Ok.ensures.made
+pack_on_disk-requires g c = placed (rw c.in-Some.is at c.requires) c.in-Ok.ensures.made
+
+pub returns-in_default : goal.returns-in_default
+returns-in_default g c = λ sectors inodes is. has_no_geometry (sym is ∙ no_layout _ c.in_default.not-Some) refl
 
 pub returns-in-Ok : goal.returns-in-Ok
-returns-in-Ok g c =
-    let is = geometry_is_laid_out c.args.sectors c.args.inodes (sym c.in-Some.ensures.value) in
-    packs c.in-Ok.disk c.in-Some.geometry (sym c.in-Some.ensures.value) (c.in-Ok.ensures.made ∙ ap (λ (p : Geometry). p.sectors) is) c.pack_on_disk.ensures
+returns-in-Ok g c = λ sectors inodes has.
+    let found = sym has ∙ c.in-Some.is in
+    let is = geometry_is_laid_out sectors inodes found in
+    packs c.in-Ok.disk c.in-Some.geometry found (c.in-Ok.ensures.made ∙ ap (λ (p : Geometry). p.sectors) is) c.pack_on_disk.ensures
 
 pub returns-in-Err : goal.returns-in-Err
-returns-in-Err g c = elim c.in-Err.ensures.failed [
+returns-in-Err g c = λ sectors inodes has. elim c.in-Err.ensures.failed [
   | inl is ↦ is_there (ap (λ f. Err f) is)
   | inr is ↦ cannot_create (ap (λ f. Err f) is)
 ]

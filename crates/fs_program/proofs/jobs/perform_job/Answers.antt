@@ -2,13 +2,13 @@ use Rattle.std.proofs.Common.{refl}
 use Rattle.fs_program.proofs.jobs.perform_job.Goals as goal
 
 pub returns-in-Mkfs : goal.returns-in-Mkfs
-returns-in-Mkfs g c = rw c.in-Mkfs.is c.make_image.ensures
+returns-in-Mkfs g c = rw c.in-Mkfs.is (c.make_image.ensures _ _ _ c.older_layout.ensures.value)
 
 pub returns-in-Format : goal.returns-in-Format
-returns-in-Format g c = rw c.in-Format.is c.make_image-in-Format.ensures
+returns-in-Format g c = rw c.in-Format.is (c.make_image-in-Format.ensures _ _ _ c.newest_layout.ensures.value)
 
 pub returns-in-Pack : goal.returns-in-Pack
-returns-in-Pack g c = rw c.in-Pack.is (refl, c.pack_image.ensures)
+returns-in-Pack g c = rw c.in-Pack.is (refl, c.pack_image.ensures _ _ c.newest_layout-layout.ensures.value)
 
 pub returns-in-Unpack : goal.returns-in-Unpack
 returns-in-Unpack g c = rw c.in-Unpack.is (refl, c.unpack_image.ensures)

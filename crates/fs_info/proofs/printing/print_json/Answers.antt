@@ -1,5 +1,5 @@
 use Rattle.std.proofs.KnownBytes.{Appends-trans}
-use Rattle.fs_program.proofs.describing.print_json.Goals as goal
+use Rattle.fs_info.proofs.printing.print_json.Goals as goal
 
 pub returns : goal.returns
 returns g c =

@@ -2,37 +2,15 @@
 
 ghost use Rattle.std.specs.Prelude.{◌≡◌, OnOk, codes};
 ghost use Rattle.std.specs.Io.KnownBytes.{Appends};
-ghost use Rattle.sector_disk.specs.Disk.{OnlyReads};
-ghost use Rattle.fs_program.specs.InfoTexts.{size_fields, free_fields, limit_fields, state_fields, info_lines, lines_text, members_of, truth_text, json_text, info_text};
-ghost use Rattle.fs_program.specs.Jobs.{InfoEnds};
-ghost use Rattle.fs_program.specs.Streams.{writing};
+ghost use Rattle.fs_info.specs.InfoTexts.{size_fields, free_fields, limit_fields, state_fields, info_lines, lines_text, members_of, yes_text, truth_text, json_text, info_text};
 
-use crate::disks::{written, yes_or_no};
-use crate::failure::Failure;
-use fs_command::Status;
-use fs_info::{Info, read_info};
-use fs_shell::Watched;
-use sector_disk::Disk;
+use crate::info::Info;
 use std::io::{self, Write};
 
 const SECTOR_BYTES: u64 = 512;
 
 /// Prints what a disk says of itself, a line each, or as a JSON object.
-pub(crate) fn describe_disk<D: Disk, O: Write>(
-    disk: &mut D,
-    json: bool,
-    out: &mut Watched<O>,
-) -> Result<Status, Failure>
-    ensures reads { OnlyReads (D.state disk.old) (D.state disk.new) }
-    ensures ends { InfoEnds (D.state disk.old) (D.state disk.new) json (writing O.contents out.old out.new) result }
-{
-    match read_info(disk) {
-        Ok(info) => Ok(written(print_info(&info, json, out), Status::Done)),
-        Err(fault) => Err(Failure::Info(fault)),
-    }
-}
-
-fn print_info<O: Write>(info: &Info, json: bool, out: &mut O) -> io::Result<()>
+pub fn print_info<O: Write>(info: &Info, json: bool, out: &mut O) -> io::Result<()>
     ensures { OnOk result (Appends (O.contents out.old) (O.contents out.new) (info_text json info.now)) }
 {
     if json {
@@ -158,6 +136,13 @@ fn print_state_members<O: Write>(info: &Info, out: &mut O) -> io::Result<()>
         true_or_false(info.geometry.version.keeps_times()),
         true_or_false(info.pending)
     )
+}
+
+/// The word for whether something is so.
+pub fn yes_or_no(yes: bool) -> &'static str
+    ensures { result.now ≡ yes_text yes }
+{
+    if yes { "yes" } else { "no" }
 }
 
 fn true_or_false(truth: bool) -> &'static str

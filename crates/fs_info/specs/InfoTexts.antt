@@ -1,6 +1,7 @@
 -- How it is printed what a disk says of itself.
 --     Value        a number, or whether something is so
 --     size_fields, free_fields, limit_fields, state_fields        what it says, each by its name, in this order
+--     yes_text        the word for whether something is so
 --     lines_text        a line each
 --     json_text        a JSON object, on one line
 --     info_text        one or the other
@@ -8,7 +9,6 @@ use Rattle.std.specs.Prelude.{ℕ, ◌*◌, Bool, List, [], ◌∷◌, ◌++◌,
 use Rattle.std.specs.Fmt.{decimal}
 use Rattle.fs_layout.specs.Version.{version_number, max_name, max_names, max_inode_names, max_file_size, keeps_times}
 use Rattle.fs_info.specs.declared.info.Info.{Info}
-use Rattle.fs_program.specs.Texts.{yes_text}
 
 pub data Value : Type 0 where
   Number : ℕ → Value
@@ -41,6 +41,9 @@ abbrev pub state_fields : Info → List (List ℕ × Value)
 state_fields i = (codes "keeps_times", Truth (keeps_times i.geometry.version)) ∷ (codes "pending", Truth i.pending) ∷ []
 
 -- ---- for people
+
+abbrev pub yes_text : Bool → List ℕ
+yes_text b = if b then codes "yes" else codes "no"
 
 abbrev pub plain_text : Value → List ℕ
 plain_text (Number n) = decimal n

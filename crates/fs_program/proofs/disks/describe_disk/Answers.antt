@@ -1,10 +1,10 @@
 use Rattle.std.proofs.Common.{refl}
 use Rattle.fs_program.specs.Jobs.{says, says_nothing}
-use Rattle.fs_program.specs.InfoTexts.{info_text}
+use Rattle.fs_info.specs.InfoTexts.{info_text}
 use Rattle.fs_program.specs.Streams.{writing}
 use Rattle.fs_command.specs.declared.status.Status.TheVariants.{Done}
 use Rattle.fs_program.proofs.Ends.{tells}
-use Rattle.fs_program.proofs.describing.describe_disk.Goals as goal
+use Rattle.fs_program.proofs.disks.describe_disk.Goals as goal
 
 pub returns-in-Ok-clause-ends : goal.returns-in-Ok-clause-ends
 returns-in-Ok-clause-ends g c =
