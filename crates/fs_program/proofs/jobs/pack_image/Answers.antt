@@ -1,7 +1,7 @@
 use Rattle.std.proofs.Common.{◌∙◌, Err, inl, inr, refl, sym, ap}
 use Rattle.fs_layout.specs.declared.geometry.Geometry.{Geometry}
 use Rattle.fs_layout.proofs.Places.{geometry_is_laid_out}
-use Rattle.fs_program.specs.Copying.{cannot_create, has_no_directory, has_no_geometry, is_there, packs}
+use Rattle.fs_program.specs.Copying.{cannot_create, has_no_geometry, is_there, packs}
 use Rattle.fs_program.proofs.Ends.{no_layout, placed, sectors_most}
 use Rattle.fs_program.proofs.jobs.pack_image.Goals as goal
 
