@@ -7,7 +7,7 @@ use Rattle.fs_layout.specs.Bytes.{SectorMap, IsSector}
 use Rattle.fs_layout.specs.Geometry.{IsGeometry}
 use Rattle.fs_layout.specs.Images.{inode_map_bits, bit, free_sectors}
 use Rattle.fs_layout.specs.Ownership.{IsConsistent}
-use Rattle.fs_layout.specs.InodeChanges.{MarksInode, Puts}
+use Rattle.fs_layout.specs.InodeChanges.{ChangesInode, MarksInode, Puts}
 use Rattle.fs_layout.proofs.Bits.{bit_kept, inode_bit_kept, free_sectors_kept}
 use Rattle.fs_layout.proofs.Composes.{both_inodes}
 use Rattle.fs_layout.proofs.Consistent.{stays_consistent}
@@ -121,6 +121,17 @@ super_kept p n more old new geometry puts = puts.others 0 no
     no (inl map) = let from = map.0 in let after = after_map geometry in omega (arith, from, after)
     no (inr (inl table)) = let past = after_map geometry in omega (arith, past, table)
     no (inr (inr s)) = let from = s.0 in let table = before_data geometry in let past = after_map geometry in omega (arith, past, table, from)
+
+-- two changes of one inode, of which the puts and the free sectors are known, touch no more than it
+pub touched : {p : Geometry} {n taken more : ℕ} {old new : TxnState} {mid : SectorMap} → IsGeometry p → PutsOnly (IsSectorFor p n) (bitmaps p) more old new
+    → ChangesInode p n old.sectors mid → ChangesInode p n mid new.sectors → free_sectors p old.sectors ≤ free_sectors p new.sectors + taken
+    → Touches p n taken more old new
+touched {p} {n} {more = more} {old} {new} geometry puts first then free = record {
+  puts = puts;
+  super = super_kept p n more old new geometry puts;
+  inode = both_inodes geometry first then;
+  free = free;
+}
 
 -- that of a number's bit is one
 pub mark_is_for : (p : Geometry) (n : ℕ) (map : Bitmap) (m s : ℕ) → IsGeometry p → m < limit p map → s ≡ sector_of p map m → IsSectorFor p n s

@@ -20,16 +20,14 @@
 
 mod bitmap;
 mod bits;
-mod counts;
 mod laws;
-mod marks;
 mod search;
 
-pub use bitmap::{Bitmap, TakeFault};
+pub use bitmap::{
+    Bitmap, TakeFault, count_free, give, give_all, has_free, is_taken, take, take_all,
+};
 pub use bits::first_clear;
-pub use counts::{count_free, has_free, is_taken};
 pub use laws::{
     calls_join, consistent_maps_are_sound, inodes_take_no_sector, soundness_is_kept,
     spare_at_first, spare_is_left,
 };
-pub use marks::{give, give_all, take, take_all};

@@ -4,7 +4,7 @@ use Rattle.bit_alloc.specs.Bitmaps.{GivesNumber}
 use Rattle.bit_alloc.proofs.Marking.{one_more_free}
 use Rattle.bit_alloc.proofs.Transactions.{map_unchanged, bitmaps_unchanged, puts_after}
 use Rattle.bit_alloc.proofs.Passing.{no_fault}
-use Rattle.bit_alloc.proofs.marks.give.Goals as goal
+use Rattle.bit_alloc.proofs.bitmap.give.Goals as goal
 
 pub clear_bit-requires-clause-bitmaps : goal.clear_bit-requires-clause-bitmaps
 clear_bit-requires-clause-bitmaps g c =

@@ -3,7 +3,7 @@ use Rattle.std.specs.Prelude.{length}
 use Rattle.sector_txn.specs.Sectors.{PutsOnly}
 use Rattle.bit_alloc.specs.Bitmaps.{IsNumberOf, IsSectorOf, TakesNumbers, HasBitmaps}
 use Rattle.bit_alloc.specs.Room.{bitmaps}
-use Rattle.bit_alloc.proofs.marks.take_all.Given as goal
+use Rattle.bit_alloc.proofs.bitmap.take_all.Given as goal
 
 abbrev pub invariant-loop-at : goal.invariant-loop-at
 invariant-loop-at g l = record {

@@ -2,7 +2,7 @@ use Rattle.std.proofs.Common.{◌≡◌, ◌*◌, ap, arith}
 use Rattle.bit_alloc.specs.Bits.{clear_below}
 use Rattle.bit_alloc.specs.Bitmaps.{first_sector, bit_count}
 use Rattle.bit_alloc.proofs.Maps.{few_free, none_counted, numbers_counted}
-use Rattle.bit_alloc.proofs.counts.count_free.Goals as goal
+use Rattle.bit_alloc.proofs.bitmap.count_free.Goals as goal
 
 pub returns-clause-free : goal.returns-clause-free
 returns-clause-free g c =

@@ -3,7 +3,7 @@ use Rattle.std.specs.Prelude.{length}
 use Rattle.sector_txn.specs.Sectors.{IsUnchanged}
 use Rattle.bit_alloc.specs.Bits.{AreSet}
 use Rattle.bit_alloc.specs.Bitmaps.{first_sector}
-use Rattle.bit_alloc.proofs.marks.take_next.Given as goal
+use Rattle.bit_alloc.proofs.bitmap.take_next.Given as goal
 
 abbrev pub invariant-loop-turn : goal.invariant-loop-turn
 invariant-loop-turn g l = record {

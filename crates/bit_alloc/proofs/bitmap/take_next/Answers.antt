@@ -13,7 +13,7 @@ use Rattle.bit_alloc.proofs.Maps.{bit_in_sector, all_set, numbers_counted}
 use Rattle.bit_alloc.proofs.Taking.{map_sector, room_for_map, takes_listed, takes_after, bitmaps_taken, taken_puts}
 use Rattle.bit_alloc.proofs.Transactions.{unchanged_joined, map_unchanged, bitmaps_unchanged, spare_unchanged, puts_after}
 use Rattle.bit_alloc.proofs.Passing.{through_try, other_fault_on, no_fault_of}
-use Rattle.bit_alloc.proofs.marks.take_next.Goals as goal
+use Rattle.bit_alloc.proofs.bitmap.take_next.Goals as goal
 
 -- ---- m sectors in turn, from some one on
 -- each has its turn

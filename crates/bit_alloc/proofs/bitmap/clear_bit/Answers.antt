@@ -6,7 +6,7 @@ use Rattle.fs_layout.proofs.Bits.{bit_put_same}
 use Rattle.sector_txn.specs.Sectors.{IsPut}
 use Rattle.bit_alloc.specs.Bitmaps.{sector_of}
 use Rattle.bit_alloc.proofs.Marking.{room_to_mark, marked_puts, puts_byte, whole_then, written_marks, bitmaps_marked}
-use Rattle.bit_alloc.proofs.marks.clear_bit.Goals as goal
+use Rattle.bit_alloc.proofs.bitmap.clear_bit.Goals as goal
 
 pub put-requires-clause-room : goal.put-requires-clause-room
 put-requires-clause-room g c = λ none.

@@ -5,7 +5,7 @@ use Rattle.bit_alloc.proofs.Listed.{listed_puts}
 use Rattle.bit_alloc.proofs.Passing.{through_try, cause_on, no_fault_of}
 use Rattle.bit_alloc.proofs.Soundness.{spare_then}
 use Rattle.bit_alloc.proofs.Taking.{takes_none, takes_joined, fewer_free, listed_puts_same}
-use Rattle.bit_alloc.proofs.marks.take_all.Goals as goal
+use Rattle.bit_alloc.proofs.bitmap.take_all.Goals as goal
 
 pub loop-at-init : goal.loop-at-init
 loop-at-init g c = record {

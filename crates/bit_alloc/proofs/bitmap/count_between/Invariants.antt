@@ -2,7 +2,7 @@ use Rattle.std.proofs.Common.{◌≡◌, ◌+◌, ◌*◌, ◌<◌, ◌≤◌}
 use Rattle.sector_txn.specs.Sectors.{IsUnchanged}
 use Rattle.bit_alloc.specs.Bits.{clear_below}
 use Rattle.bit_alloc.specs.Bitmaps.{first_sector}
-use Rattle.bit_alloc.proofs.counts.count_between.Given as goal
+use Rattle.bit_alloc.proofs.bitmap.count_between.Given as goal
 
 abbrev pub invariant-loop-k : goal.invariant-loop-k
 invariant-loop-k g l = record {

@@ -6,7 +6,7 @@ use Rattle.bit_alloc.specs.Bitmaps.{first_sector}
 use Rattle.bit_alloc.proofs.Transactions.{unchanged_nothing, unchanged_joined}
 use Rattle.bit_alloc.proofs.Maps.{sector_counted, fewer_counted, few_counted}
 use Rattle.bit_alloc.proofs.Passing.{fault_on, no_fault}
-use Rattle.bit_alloc.proofs.counts.count_between.Goals as goal
+use Rattle.bit_alloc.proofs.bitmap.count_between.Goals as goal
 
 pub loop-k-init : goal.loop-k-init
 loop-k-init g c = record { same = unchanged_nothing; some = omega arith; all = λ less. omega arith }

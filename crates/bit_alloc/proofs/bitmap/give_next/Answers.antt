@@ -10,7 +10,7 @@ use Rattle.bit_alloc.proofs.Transactions.{bitmaps_unchanged, map_unchanged, puts
 use Rattle.bit_alloc.proofs.Passing.{fault_on, no_fault, through_try}
 use Rattle.sector_txn.proofs.TransactionRuns.{store_same, changes_nothing}
 use Rattle.bit_alloc.specs.Room.{bitmaps}
-use Rattle.bit_alloc.proofs.marks.give_next.Goals as goal
+use Rattle.bit_alloc.proofs.bitmap.give_next.Goals as goal
 
 pub get-requires-clause-on_disk : goal.get-requires-clause-on_disk
 get-requires-clause-on_disk g c =

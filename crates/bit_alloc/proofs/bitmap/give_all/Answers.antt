@@ -7,7 +7,7 @@ use Rattle.bit_alloc.proofs.Listed.{gives_joined, gives_none, listed_puts, liste
 use Rattle.bit_alloc.proofs.Maps.{number_has_bit}
 use Rattle.bit_alloc.proofs.Soundness.{spare_then}
 use Rattle.bit_alloc.proofs.Passing.{fault_on, no_fault}
-use Rattle.bit_alloc.proofs.marks.give_all.Goals as goal
+use Rattle.bit_alloc.proofs.bitmap.give_all.Goals as goal
 
 pub loop-at-init : goal.loop-at-init
 loop-at-init g c = record {
