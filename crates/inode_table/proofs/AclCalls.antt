@@ -5,11 +5,11 @@ use Rattle.fs_layout.specs.declared.inode.Inode.{Inode}
 use Rattle.fs_layout.specs.declared.geometry.Geometry.{Geometry}
 use Rattle.fs_layout.specs.Inode.{FitsInode}
 use Rattle.fs_layout.specs.AclSector.{kept_acl}
-use Rattle.fs_layout.specs.Images.{levels, AccessAcl, DefaultAcl, part, bit, inode_at}
-use Rattle.fs_layout.specs.InodeChanges.{Saves}
+use Rattle.fs_layout.specs.Images.{levels, Part, AccessAcl, DefaultAcl, part, bit, inode_at}
+use Rattle.fs_layout.specs.InodeChanges.{Saves, Turns}
 use Rattle.fs_layout.proofs.Consistent.{owned_is_apart}
 use Rattle.fs_layout.proofs.OneAcl.{mode_small}
-use Rattle.fs_layout.proofs.Parts.{owns_acl, owns_default_acl}
+use Rattle.fs_layout.proofs.Parts.{KeepsPointers, HasNoPointers, owns_acl, owns_default_acl}
 use Rattle.fs_layout.proofs.Pointers.{turns_acl, turns_default_acl}
 use Rattle.sector_txn.specs.Sectors.{TxnState, SameStore, PutsOnly}
 use Rattle.bit_alloc.specs.Room.{bitmaps, TakesSpare}
@@ -64,6 +64,15 @@ pub record IsDefaultSaved (p : Geometry) (n : ℕ) (inode : Inode) (a : Option A
   pub default : HasDefaultAcl new.sectors (inode_at p new.sectors n) a
   pub access : KeepsAccess old.sectors new.sectors (inode_at p old.sectors n) (inode_at p new.sectors n)
 
+-- what an inode has for an ACL turns into what a store has made of it
+turned : (p : Geometry) (n : ℕ) (at : Part) (w : Inode) (a : Option AccessList) (t0 t1 : TxnState) (x y : ℕ) → IsSound p t0 → n < p.inodes
+    → part t0.sectors (inode_at p t0.sectors n) at ≡ x → HasNoPointers at → IsSomeAcl a → Stores p x y (contents a) t0.sectors t1.sectors
+    → (KeepsPointers t0.sectors t1.sectors (inode_at p t0.sectors n) → Turns t0.sectors t1.sectors (inode_at p t0.sectors n) w at x y)
+    → HasStored p (inode_at p t0.sectors n) w at (acl_takes x a) t0.sectors t1.sectors
+turned p n at w a t0 t1 x y sound lt was own valid way turns =
+    subst (λ (k : ℕ). HasStored p (inode_at p t0.sectors n) w at k t0.sectors t1.sectors) (takes_same x a)
+    (stored {x = x} sound.consistent.geometry sound.consistent.sectors (owned_is_apart sound.consistent n lt) was {y = y} (contents a) own (contents_whole a valid) way turns)
+
 -- ---- the access ACL
 module _ (p : Geometry) (n : ℕ) (inode : Inode) (a : AccessList) (y : ℕ) (t0 t1 t2 : TxnState)
     (sound : IsSound p t0) (lt : n < p.inodes) (attributes : DiffersInAttributes (inode_at p t0.sectors n) inode) (valid : IsAcl a)
@@ -76,10 +85,8 @@ module _ (p : Geometry) (n : ℕ) (inode : Inode) (a : AccessList) (y : ℕ) (t0
   access_turned : HasStored p (inode_at p t0.sectors n) (record (inode_at p t0.sectors n) { acl = y }) AccessAcl (acl_takes inode.acl (kept_acl a)) t0.sectors t1.sectors
   unfolding part
   access_turned =
-      let v = inode_at p t0.sectors n in
-      subst (λ (k : ℕ). HasStored p v (record v { acl = y }) AccessAcl k t0.sectors t1.sectors) (takes_same inode.acl (kept_acl a))
-      (stored {x = inode.acl} sound.consistent.geometry sound.consistent.sectors (owned_is_apart sound.consistent n lt) (sym was) {y = y} (contents (kept_acl a)) (λ n i e. cc)
-      (contents_whole (kept_acl a) (kept_valid a valid)) way (λ keeps. turns_acl t0.sectors t1.sectors v inode.acl y (sym was) keeps))
+      turned p n AccessAcl (record (inode_at p t0.sectors n) { acl = y }) (kept_acl a) t0 t1 inode.acl y sound lt (sym was) (λ n i e. cc) (kept_valid a valid) way
+      (turns_acl t0.sectors t1.sectors (inode_at p t0.sectors n) inode.acl y (sym was))
 
   default_is : inode.default_acl ≡ (inode_at p t0.sectors n).default_acl
   default_is = ap (λ (u : Inode). u.default_acl) attributes
@@ -136,10 +143,8 @@ module _ (p : Geometry) (n : ℕ) (inode : Inode) (a : Option AccessList) (y : �
       t0.sectors t1.sectors
   unfolding part
   default_turned =
-      let v = inode_at p t0.sectors n in
-      subst (λ (k : ℕ). HasStored p v (record v { default_acl = y }) DefaultAcl k t0.sectors t1.sectors) (takes_same inode.default_acl a)
-      (stored {x = inode.default_acl} sound.consistent.geometry sound.consistent.sectors (owned_is_apart sound.consistent n lt) (sym was_default) {y = y} (contents a)
-      (λ n i e. cc) (contents_whole a valid) way (λ keeps. turns_default_acl t0.sectors t1.sectors v inode.default_acl y (sym was_default) keeps))
+      turned p n DefaultAcl (record (inode_at p t0.sectors n) { default_acl = y }) a t0 t1 inode.default_acl y sound lt (sym was_default) (λ n i e. cc) valid way
+      (turns_default_acl t0.sectors t1.sectors (inode_at p t0.sectors n) inode.default_acl y (sym was_default))
 
   access_is : inode.acl ≡ (inode_at p t0.sectors n).acl
   access_is = ap (λ (u : Inode). u.acl) attributes

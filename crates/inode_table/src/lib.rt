@@ -21,13 +21,12 @@
 //! | where they rewrite one | 0 more | 1 more |
 #![tactic(auto)]
 
-mod acls;
 mod faults;
 mod inodes;
 mod sectors;
-mod stored;
 
-pub use acls::{load_acl, load_default_acl, save_acl, save_default_acl};
 pub use faults::LoadAclFault;
-pub use inodes::{free_inode, load, load_with_content, new_inode, save, save_times, write_inode};
-pub use stored::give_sector;
+pub use inodes::{
+    free_inode, give_sector, load, load_acl, load_default_acl, load_with_content, new_inode, save,
+    save_acl, save_default_acl, save_times, write_inode,
+};

@@ -1,11 +1,11 @@
-use Rattle.std.proofs.Common.{ap, arith}
+use Rattle.std.proofs.Common.{ap, arith, rules}
 use Rattle.fs_layout.proofs.Free.{free_fits}
 use Rattle.bit_alloc.proofs.Transactions.{bitmaps_unchanged}
 use Rattle.bit_alloc.proofs.Soundness.{spare_then}
 use Rattle.inode_table.proofs.Sound.{room_left}
 use Rattle.inode_table.proofs.StoredAcls.{acl_in_data, default_acl_in_data}
 use Rattle.inode_table.proofs.Freeing.{puts_2, puts_3, puts_4, puts_5, IsFreed, freed}
-use Rattle.bit_alloc.proofs.Passing.{fault_on, no_fault}
+use Rattle.bit_alloc.proofs.Passing.{fault_on}
 use Rattle.sector_txn.proofs.TransactionRuns.{store_joined}
 use Rattle.inode_table.proofs.inodes.free_inode.Goals as goal
 
@@ -55,23 +55,10 @@ is_freed g c =
     freed p n c.in_ok-inode.inode t0 t1 t2 t3 t4 t5 c.requires.sound c.requires.number c.requires.empty c.in_ok-inode.ensures.found c.in_ok-inode.ensures.same
     c.in_ok-give.ensures.given c.in_ok-give_sector.ensures.given c.in_ok-give_sector-2.ensures.given c.in_ok-write_inode.ensures.saved puts
 
-pub returns-clause-store : goal.returns-clause-store
-returns-clause-store g c = (is_freed g c).puts.store
-
-pub returns-clause-puts : goal.returns-clause-puts
-returns-clause-puts g c = (is_freed g c).puts
-
-pub returns-clause-sound : goal.returns-clause-sound
-returns-clause-sound g c = (is_freed g c).sound
-
-pub returns-clause-touches : goal.returns-clause-touches
-returns-clause-touches g c = (is_freed g c).touches
-
-pub returns-clause-free : goal.returns-clause-free
-returns-clause-free g c = (is_freed g c).free
-
-pub returns-clause-unused : goal.returns-clause-unused
-returns-clause-unused g c = (is_freed g c).unused
+pub returns : goal.returns
+returns g c =
+    let f = is_freed g c in
+    let store = f.puts.store in search rules
 
 pub returns-in_err-give-clause-store : goal.returns-in_err-give-clause-store
 returns-in_err-give-clause-store g c = store_joined c.in_ok-inode.ensures.same.store c.in_err-give.ensures.unchanged.store
@@ -104,6 +91,3 @@ pub returns-in_err-write_inode-clause-cause : goal.returns-in_err-write_inode-cl
 returns-in_err-write_inode-clause-cause g c =
     fault_on (puts_4 c.requires.sound c.requires.number c.in_ok-inode.ensures.same c.in_ok-give.ensures.puts c.in_ok-give_sector.ensures.puts c.in_ok-give_sector-2.ensures.puts).store c.in_err-write_inode.ensures.cause
     c.from_residual-in_err-write_inode.result c.from_residual-in_err-write_inode.ensures
-
-pub returns-clause-cause : goal.returns-clause-cause
-returns-clause-cause g c = no_fault (is_freed g c).puts.store

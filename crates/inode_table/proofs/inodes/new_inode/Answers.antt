@@ -1,9 +1,9 @@
-use Rattle.std.proofs.Common.{◌^◌, ◌<◌, ℕ, sym, subst, arith, inr}
+use Rattle.std.proofs.Common.{◌^◌, ◌<◌, ℕ, sym, subst, arith, rules, inr}
 use Rattle.std.specs.Option.{option_copied}
 use Rattle.fs_layout.specs.Inode.{FitsInode}
 use Rattle.fs_layout.specs.InodeChanges.{Saves}
 use Rattle.fs_layout.proofs.OneAcl.{mode_small}
-use Rattle.bit_alloc.proofs.Passing.{through_try, cause_on, other_fault_on, no_fault_of}
+use Rattle.bit_alloc.proofs.Passing.{through_try, cause_on, other_fault_on}
 use Rattle.bit_alloc.proofs.Soundness.{spare_then}
 use Rattle.sector_txn.proofs.TransactionRuns.{store_joined}
 use Rattle.inode_table.specs.Storing.{Stores}
@@ -84,29 +84,10 @@ is_made g c =
     made p n v a y t0 t1 t2 c.requires.sound c.requires.clear c.in_ok-ino.ensures.taken c.requires.blank c.kept_content.ensures.valid access
     d z t3 t4 c.content_of.ensures.valid default fits saves puts
 
-pub returns-clause-store : goal.returns-clause-store
-returns-clause-store g c = (is_made g c).touches.puts.store
-
-pub returns-clause-sound : goal.returns-clause-sound
-returns-clause-sound g c = (is_made g c).sound
-
-pub returns-clause-used : goal.returns-clause-used
-returns-clause-used g c = (is_made g c).used
-
-pub returns-clause-touches : goal.returns-clause-touches
-returns-clause-touches g c = (is_made g c).touches
-
-pub returns-clause-fields : goal.returns-clause-fields
-returns-clause-fields g c = (is_made g c).fields
-
-pub returns-clause-empty : goal.returns-clause-empty
-returns-clause-empty g c = (is_made g c).empty
-
-pub returns-clause-access : goal.returns-clause-access
-returns-clause-access g c = (is_made g c).access
-
-pub returns-clause-default : goal.returns-clause-default
-returns-clause-default g c = (is_made g c).default
+pub returns : goal.returns
+returns g c =
+    let m = is_made g c in
+    let store = m.touches.puts.store in search rules
 
 pub returns-in_err-acl-clause-store : goal.returns-in_err-acl-clause-store
 returns-in_err-acl-clause-store g c = store_joined c.in_ok-ino.ensures.puts.store c.in_err-acl.ensures.store
@@ -125,6 +106,3 @@ returns-in_err-default_acl-clause-cause g c =
 pub returns-in_err-write_inode-clause-cause : goal.returns-in_err-write_inode-clause-cause
 returns-in_err-write_inode-clause-cause g c =
     other_fault_on (store_joined (store_joined c.in_ok-ino.ensures.puts.store c.in_ok-acl.ensures.puts.store) c.in_ok-default_acl.ensures.puts.store) c.in_err-write_inode.ensures.cause c.from_residual-in_err-write_inode.result c.from_residual-in_err-write_inode.ensures.0
-
-pub returns-clause-cause : goal.returns-clause-cause
-returns-clause-cause g c = no_fault_of (is_made g c).touches.puts.store

@@ -1,7 +1,6 @@
-use Rattle.std.proofs.Common.{arith}
+use Rattle.std.proofs.Common.{arith, rules}
 use Rattle.inode_table.proofs.Sound.{room_left}
 use Rattle.inode_table.proofs.Saved.{HasSaved, has_saved}
-use Rattle.bit_alloc.proofs.Passing.{no_fault}
 use Rattle.inode_table.proofs.inodes.save.Goals as goal
 
 pub write_inode-requires-clause-room : goal.write_inode-requires-clause-room
@@ -15,14 +14,4 @@ is_saved g c =
 
 pub returns : goal.returns
 returns g c =
-    let s = is_saved g c in
-    record {
-      store = c.in_ok-write_inode.ensures.store;
-      sound = s.sound;
-      touches = s.touches;
-      saved = s.saved;
-      bytes = s.bytes;
-      acls = s.acls;
-      used = s.used;
-      cause = no_fault c.in_ok-write_inode.ensures.store;
-    }
+    let s = is_saved g c in search rules

@@ -1,4 +1,4 @@
-use Rattle.std.proofs.Common.{◌∙◌, ◌+◌, ◌/◌, ◌≡◌, ℕ, [], ap, arith, refl, subst, sym}
+use Rattle.std.proofs.Common.{◌∙◌, ◌+◌, ◌/◌, ◌≡◌, ℕ, [], ap, arith, rules, refl, subst, sym}
 use Rattle.fs_layout.specs.InodeChanges.{Saves}
 use Rattle.fs_layout.specs.Images.{inode_at}
 use Rattle.sector_txn.specs.Sectors.{PutsOnly}
@@ -32,23 +32,7 @@ is_saved g c =
     has_saved c.args.geometry c.args.ino c.args.inode.now (g.S.Sectors.state c.args.s.now) (g.S.Sectors.state c.put.new.self)
     c.requires.sound c.requires.below attributes c.requires.fits (saves g c) (puts g c)
 
-pub returns-clause-store : goal.returns-clause-store
-returns-clause-store g c = (puts g c).store
-
-pub returns-clause-sound : goal.returns-clause-sound
-returns-clause-sound g c = (is_saved g c).sound
-
-pub returns-clause-touches : goal.returns-clause-touches
-returns-clause-touches g c = (is_saved g c).touches
-
-pub returns-clause-saved : goal.returns-clause-saved
-returns-clause-saved g c = (is_saved g c).saved
-
-pub returns-clause-bytes : goal.returns-clause-bytes
-returns-clause-bytes g c = (is_saved g c).bytes
-
-pub returns-clause-acls : goal.returns-clause-acls
-returns-clause-acls g c = (is_saved g c).acls
-
-pub returns-clause-used : goal.returns-clause-used
-returns-clause-used g c = (is_saved g c).used
+pub returns : goal.returns
+returns g c =
+    let s = is_saved g c in
+    let store = (puts g c).store in search rules

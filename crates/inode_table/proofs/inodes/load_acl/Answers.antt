@@ -1,7 +1,7 @@
 use Rattle.std.proofs.Common.{ap}
 use Rattle.fs_layout.specs.declared.inode.Inode.{Inode}
 use Rattle.inode_table.proofs.StoredAcls.{acl_in_data, data_mapped, told_by_mode}
-use Rattle.inode_table.proofs.acls.load_acl.Goals as goal
+use Rattle.inode_table.proofs.inodes.load_acl.Goals as goal
 
 pub returns-in-Ok-clause-found : goal.returns-in-Ok-clause-found
 returns-in-Ok-clause-found g c = λ a has.

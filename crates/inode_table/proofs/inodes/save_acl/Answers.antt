@@ -1,4 +1,4 @@
-use Rattle.std.proofs.Common.{◌^◌, ◌<◌, ℕ, sym, ap, subst, arith}
+use Rattle.std.proofs.Common.{◌^◌, ◌<◌, ℕ, sym, ap, subst, arith, rules}
 use Rattle.fs_layout.specs.declared.inode.Inode.{Inode}
 use Rattle.fs_layout.specs.Inode.{FitsInode}
 use Rattle.fs_layout.specs.InodeChanges.{Saves}
@@ -8,8 +8,8 @@ use Rattle.inode_table.specs.Storing.{Stores}
 use Rattle.inode_table.proofs.Bits.{with_bits_fits}
 use Rattle.inode_table.proofs.StoredAcls.{acl_in_data}
 use Rattle.inode_table.proofs.AclCalls.{IsAccessSaved, access_is_saved}
-use Rattle.bit_alloc.proofs.Passing.{other_fault_on, no_fault_of}
-use Rattle.inode_table.proofs.acls.save_acl.Goals as goal
+use Rattle.bit_alloc.proofs.Passing.{other_fault_on}
+use Rattle.inode_table.proofs.inodes.save_acl.Goals as goal
 
 pub store-requires-clause-owned : goal.store-requires-clause-owned
 store-requires-clause-owned g c = acl_in_data c.requires.sound c.requires.below (ap (λ (u : Inode). u.acl) c.requires.attributes)
@@ -40,20 +40,8 @@ is_saved g c =
 pub returns : goal.returns
 returns g c =
     let s = is_saved g c in
-    record {
-      store = s.saved.touches.puts.store;
-      sound = s.saved.sound;
-      touches = s.saved.touches;
-      puts = s.saved.puts;
-      none = s.saved.none;
-      fields = s.saved.fields;
-      bytes = s.saved.bytes;
-      access = s.access;
-      default = s.default;
-      used = s.saved.used;
-      full = tt;
-      cause = no_fault_of s.saved.touches.puts.store;
-    }
+    let saved = s.saved in
+    let store = saved.touches.puts.store in search rules
 
 pub returns-in_err-write_inode-clause-store : goal.returns-in_err-write_inode-clause-store
 returns-in_err-write_inode-clause-store g c = store_joined c.in_ok-sector.ensures.store c.in_err-write_inode.ensures.store

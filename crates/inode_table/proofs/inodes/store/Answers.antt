@@ -4,7 +4,7 @@ use Rattle.sector_txn.proofs.TransactionRuns.{changes_joined, store_joined}
 use Rattle.bit_alloc.proofs.Soundness.{put_keeps_bitmaps}
 use Rattle.inode_table.proofs.Sound.{puts_data, puts_bitmap}
 use Rattle.bit_alloc.proofs.Passing.{no_fault_of}
-use Rattle.inode_table.proofs.stored.store.Goals as goal
+use Rattle.inode_table.proofs.inodes.store.Goals as goal
 
 pub returns-then-sector-ne0-clause-puts : goal.returns-then-sector-ne0-clause-puts
 returns-then-sector-ne0-clause-puts g c = puts_data c.args.geometry (bitmaps c.args.geometry) c.put.ensures (c.requires.owned c.if-sector-ne0.true)

@@ -1,7 +1,7 @@
 use Rattle.std.proofs.Common.{ap}
 use Rattle.fs_layout.specs.declared.inode.Inode.{Inode}
 use Rattle.inode_table.proofs.StoredAcls.{default_acl_in_data, data_mapped}
-use Rattle.inode_table.proofs.acls.load_default_acl.Goals as goal
+use Rattle.inode_table.proofs.inodes.load_default_acl.Goals as goal
 
 pub read_acl-requires-clause-within : goal.read_acl-requires-clause-within
 read_acl-requires-clause-within g c =
