@@ -15,7 +15,7 @@ use Rattle.block_map.specs.Steps.{MayChange, IsStepSector, HasRoomFor, Alters, l
 use Rattle.block_map.proofs.Alterings.{alters_joined, may_after}
 use Rattle.block_map.proofs.AddedPointers.{alters_nothing, adds_among, adds_beside, one_lacks, sectors_far, sectors_near}
 use Rattle.block_map.proofs.Counts.{lacks_more, lacks_one, lacks_further, lacks_same, lacks_beyond, lacks_named, lacks_far, most_beyond, most_least, most_far}
-use Rattle.block_map.proofs.Rooms.{lacking-append, lacking_few, lacking_more, lacks_among}
+use Rattle.block_map.proofs.Rooms.{changes_counted, lacking-append, lacking_few, lacking_more, lacks_among}
 
 -- ---- numbers that are the same
 pub numbers_same : (old new : SectorMap) (v w : Inode) (level first count : ℕ) → ((j : ℕ) → first ≤ j → j < first + count → number_on new w level j ≡ number_on old v level j)
@@ -226,13 +226,7 @@ module _ {p : Geometry} {level first end : ℕ} {old mid : TxnState} {u v : Inod
       omega (arith, a, b, c, most)) in
       record {
         alters = alters_joined above.alters done.alters;
-        puts = record {
-          store = store_joined above.puts.store done.puts.store;
-          others = λ n out. done.puts.others n out ∙ above.puts.others n out;
-          delta = λ n has. elim (done.puts.delta n has) [ inl was ↦ above.puts.delta n was | inr r ↦ inr r ];
-          kept = λ n has. done.puts.kept n (above.puts.kept n has);
-          room = omega (arith, total);
-        };
+        puts = changes_counted above.puts done.puts (omega (arith, total));
         room = let a = lacking-append new (numbers_on new.sectors w level first (end - first)) (bitmaps p) in omega (arith, total, a);
         size = done.size ∙ above.size;
         has = done.there;

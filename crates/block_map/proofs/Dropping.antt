@@ -53,19 +53,21 @@ pub record CutsNumbers (old new : SectorMap) (v w : Inode) (level f g : ℕ) : T
 cut_numbers : {old new : SectorMap} {v w : Inode} {f g : ℕ} (level : ℕ) → CutsNumbers old new v w level f g → ((i : ℕ) → own_count level ≤ i → i < f → holder (own_count level) i < g)
     → HasFirst old new v w (suc level) g → HasFirst old new v w level f
 cut_numbers {old} {new} {v} {w} {f} {g} level c reached above = record {
-  kept = λ i lt. elim (cases_lt i (own_count level)) [
-    | inl own ↦ c.own_kept i own lt
-    | inr ge ↦
+  kept = λ i lt. elim (cases_lt i (own_count level)) [ inl own ↦ c.own_kept i own lt | inr ge ↦ held_kept i ge lt ];
+  gone = λ i le. elim (cases_lt i (own_count level)) [ inl own ↦ c.own_gone i own le | inr ge ↦ held_gone i ge le ];
+}
+  where
+    held_kept : (i : ℕ) → own_count level ≤ i → i < f → number_on new w level i ≡ number_on old v level i
+    held_kept i ge lt =
         let h : ℕ = holder (own_count level) i in
         let q : ℕ = place_in_holder (own_count level) i in
         number_on_held new w level i ge
         ∙ ap (λ (s : ℕ). pointer_in new s q) (above.kept h (reached i ge lt))
         ∙ c.entry_kept h q (omega arith) (reached i ge lt) (omega (arith, ge, lt))
         ∙ sym (number_on_held old v level i ge)
-  ];
-  gone = λ i le. elim (cases_lt i (own_count level)) [
-    | inl own ↦ c.own_gone i own le
-    | inr ge ↦
+
+    held_gone : (i : ℕ) → own_count level ≤ i → f ≤ i → number_on new w level i ≡ 0
+    held_gone i ge le =
         let h : ℕ = holder (own_count level) i in
         let q : ℕ = place_in_holder (own_count level) i in
         number_on_held new w level i ge
@@ -73,8 +75,6 @@ cut_numbers {old} {new} {v} {w} {f} {g} level c reached above = record {
           | inl lt ↦ ap (λ (s : ℕ). pointer_in new s q) (above.kept h lt) ∙ c.entry_gone h q (omega arith) lt (omega (arith, ge, le))
           | inr past ↦ ap (λ (s : ℕ). pointer_in new s q) (above.gone h past)
         ]
-  ];
-}
 
 -- ---- a sector of pointers is cut
 module _ {u from : ℕ} {old new : TxnState} (c : CutsSector u from old new) where

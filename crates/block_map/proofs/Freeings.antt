@@ -13,7 +13,7 @@ use Rattle.fs_layout.specs.Inode.{FitsInode, free_inode}
 use Rattle.fs_layout.specs.Images.{AccessAcl, DefaultAcl, part, bit, inode_at}
 use Rattle.fs_layout.specs.Ownership.{IsConsistent}
 use Rattle.fs_layout.specs.InodeChanges.{IsOwnedApart, MarksInode, ChangesBlocks, ChangesInode, Saves}
-use Rattle.fs_layout.proofs.Composes.{apart_after, both_changes, both_inodes}
+use Rattle.fs_layout.proofs.Composes.{apart_after, both_changes}
 use Rattle.fs_layout.proofs.Consistent.{owned_is_apart, stays_consistent, saved_stays_consistent}
 use Rattle.fs_layout.proofs.Free.{HasNoSector, free_fits, free_has_no_sector, inode_fits_there, no_sector_changes}
 use Rattle.fs_layout.proofs.Marks.{marks_change}
@@ -27,7 +27,7 @@ use Rattle.bit_alloc.specs.declared.bitmap.Bitmap.TheVariants.{Inodes}
 use Rattle.bit_alloc.specs.Bitmaps.{HasBitmaps, IsNumber, GivesNumber}
 use Rattle.bit_alloc.specs.Room.{bitmaps}
 use Rattle.bit_alloc.specs.Inodes.{IsSound, IsSectorFor, Touches}
-use Rattle.bit_alloc.proofs.Soundness.{free_kept, super_kept}
+use Rattle.bit_alloc.proofs.Soundness.{free_kept, touched}
 use Rattle.bit_alloc.proofs.Transactions.{map_unchanged}
 use Rattle.inode_table.specs.Storing.{IsForAcl, GivesBack}
 use Rattle.inode_table.proofs.Sound.{puts_nothing, puts_acl, puts_inode_bit, puts_inode}
@@ -120,12 +120,7 @@ module _ {p : Geometry} {n : ℕ} {v : Inode} {t0 t1 t2 : TxnState} (sound : IsS
               let d = third.free in
               let e = ended.1.free in
               record {
-                touches = record {
-                  puts = puts;
-                  super = super_kept p n 1 t0 t6 then.geometry puts;
-                  inode = both_inodes then.geometry cleared.0 ended.1.changes;
-                  free = omega (arith, same, f, a, d, e);
-                };
+                touches = touched then.geometry puts cleared.0 ended.1.changes (omega (arith, same, f, a, d, e));
                 free = ended.1.is;
                 unused = ended.1.inode_bits n (inode_has_bit then.geometry n number.1) ∙ given.clear;
               }

@@ -11,7 +11,7 @@ use Rattle.fs_layout.specs.Inode.{FitsInode, free_inode, numbers_fit}
 use Rattle.fs_layout.specs.Images.{pointer, Holds, HasNoHole, bit, free_sectors, inode_at}
 use Rattle.fs_layout.specs.Ownership.{IsConsistent}
 use Rattle.fs_layout.specs.InodeChanges.{with_direct, Allocates, IsOwnedApart, ReplacesBlock, ChangesBlocks, ChangesInode, Saves}
-use Rattle.fs_layout.proofs.Composes.{apart_after, both_changes, both_inodes}
+use Rattle.fs_layout.proofs.Composes.{apart_after, both_changes}
 use Rattle.fs_layout.proofs.Consistent.{owned_is_apart, stays_consistent, saved_stays_consistent}
 use Rattle.fs_layout.proofs.Free.{HasNoSector, free_has_no_sector, holds_nothing, no_sector_changes}
 use Rattle.fs_layout.proofs.Held.{splice_replaces}
@@ -31,7 +31,7 @@ use Rattle.bit_alloc.specs.declared.bitmap.Bitmap.TheVariants.{Inodes}
 use Rattle.bit_alloc.specs.Bitmaps.{TakesNumber}
 use Rattle.bit_alloc.specs.Room.{bitmaps}
 use Rattle.bit_alloc.specs.Inodes.{IsSound, IsSectorFor, Touches}
-use Rattle.bit_alloc.proofs.Soundness.{free_kept, super_kept}
+use Rattle.bit_alloc.proofs.Soundness.{free_kept, touched}
 use Rattle.inode_table.specs.Inodes.{ClearAreFree}
 use Rattle.inode_table.proofs.Sound.{puts_inode_bit, puts_inode}
 use Rattle.block_map.specs.Contents.{AllowsSize}
@@ -156,12 +156,7 @@ module _ {p : Geometry} {n : ℕ} {t0 t1 : TxnState} (sound : IsSound p t0) (tak
           let same = free_kept p n t0.sectors t1.sectors taken.mark in
           let f = saved.1.free in
           record {
-            touches = record {
-              puts = puts;
-              super = super_kept p n 2 t0 t3 now.geometry puts;
-              inode = both_inodes now.geometry first.0 saved.1.changes;
-              free = omega (arith, one, same, f);
-            };
+            touches = touched now.geometry puts first.0 saved.1.changes (omega (arith, one, same, f));
             used = saved.1.inode_bits n (inode_has_bit sound.consistent.geometry n taken.free.1) ∙ taken.set;
             fields = subst (IsNewLink owner group) (sym saved.1.is) (record { kind = refl; mode = refl; uid = refl; gid = refl; names = refl; parent = refl; mtime = refl; ctime = refl; atime = refl });
             acls = subst HasNoAcls (sym saved.1.is) (record { acl = refl; default = refl });

@@ -22,7 +22,7 @@ use Rattle.block_map.proofs.AddedPointers.{alters_nothing}
 use Rattle.block_map.proofs.Counts.{lacks_more, lacks_further, lacks_same, taken_is}
 use Rattle.block_map.proofs.Givings.{may_unchanged}
 use Rattle.block_map.proofs.Runs.{same_map}
-use Rattle.block_map.proofs.Rooms.{lacking-append, lacks_among, puts_among, puts_before}
+use Rattle.block_map.proofs.Rooms.{changes_counted, lacking-append, lacks_among, puts_among, puts_before}
 use Rattle.block_map.proofs.Writings.{hole_is_one, pointers_are}
 
 -- the blocks from `first` up to k are written; `ns` are their sectors of pointers
@@ -286,17 +286,11 @@ module _ {p : Geometry} (offset : ℕ) {end : ℕ} (x : List ℕ) {old mid : Txn
       ap (λ (e : ℕ). e - offset / 512 + pointer_sectors (offset / 512) e) (sym is) in
       record {
         alters = alters_joined added.alters done.alters;
-        puts = record {
-          store = store_joined added.puts.store done.puts.store;
-          others = λ n out. done.puts.others n out ∙ added.puts.others n out;
-          delta = λ n has. elim (done.puts.delta n has) [ inl was ↦ added.puts.delta n was | inr r ↦ inr r ];
-          kept = λ n has. done.puts.kept n (added.puts.kept n has);
-          room =
-              let one = added.room in
-              let two = done.puts.room in
-              let less = lacking-append new (pointers_of mid.sectors v first end) (bitmaps p) in
-              omega (arith, one, two, less, most);
-        };
+        puts = changes_counted added.puts done.puts
+            (let one = added.room in
+            let two = done.puts.room in
+            let less = lacking-append new (pointers_of mid.sectors v first end) (bitmaps p) in
+            omega (arith, one, two, less, most));
         size = done.size ∙ added.size;
         held = λ bytes h. subst (λ (r : List ℕ). Holds new.sectors w (splice bytes offset r)) all (done.held bytes (added.held bytes h));
         hole = λ k none. elim (cases_lt k first) [

@@ -1,12 +1,12 @@
 -- Room, shared by sectors more.
-use Rattle.std.proofs.Common.{◌≡◌, ℕ, zero, suc, ◌+◌, ◌≤◌, ◌<◌, Bool, true, false, cond, List, [], ◌∷◌, ◌++◌, refl, sym, ap, arith, inl, inr}
+use Rattle.std.proofs.Common.{◌≡◌, ℕ, zero, suc, ◌+◌, ◌≤◌, ◌<◌, Bool, true, false, cond, List, [], ◌∷◌, ◌++◌, refl, sym, ap, ◌∙◌, arith, inl, inr}
 use Rattle.std.proofs.lemmas.Bool.{true≢false, cases_eq}
 use Rattle.fs_layout.specs.declared.inode.Inode.{Inode}
 use Rattle.fs_layout.specs.declared.geometry.Geometry.{Geometry}
 use Rattle.fs_layout.specs.Bytes.{SectorMap}
 use Rattle.fs_layout.specs.Images.{number_on}
 use Rattle.sector_txn.specs.Sectors.{TxnState, PutsOnly, lacking}
-use Rattle.sector_txn.proofs.TransactionRuns.{lacking_less}
+use Rattle.sector_txn.proofs.TransactionRuns.{lacking_less, store_joined}
 use Rattle.bit_alloc.specs.Room.{bitmaps, HasSpare}
 use Rattle.block_map.specs.Steps.{numbers_on}
 
@@ -211,3 +211,14 @@ spare_after_one p more spare puts = let room = puts.room in omega (arith, spare,
 -- for the last one
 pub spare_last : (p : Geometry) {R : ℕ → Type 0} {old new : TxnState} (more : ℕ) → HasSpare p (more + 1) old → PutsOnly R (bitmaps p) more old new → 0 < new.room
 spare_last p more spare puts = let room = puts.room in omega (arith, spare, room)
+
+-- one change after another, where what they take is counted over other sectors
+pub changes_counted : {R : ℕ → Type 0} {first then shared : List ℕ} {few some more : ℕ} {old mid new : TxnState} → PutsOnly R first few old mid
+    → PutsOnly R then some mid new → old.room + lacking new shared ≤ new.room + lacking old shared + more → PutsOnly R shared more old new
+changes_counted x y room = record {
+  store = store_joined x.store y.store;
+  others = λ n out. y.others n out ∙ x.others n out;
+  delta = λ n has. elim (y.delta n has) [ inl was ↦ x.delta n was | inr here ↦ inr here ];
+  kept = λ n has. y.kept n (x.kept n has);
+  room = room;
+}

@@ -1,6 +1,6 @@
-use Rattle.std.proofs.Common.{length, refl, sym, ◌∙◌, arith, inr}
+use Rattle.std.proofs.Common.{length, refl, sym, ◌∙◌, arith, rules, inr}
 use Rattle.bit_alloc.proofs.Soundness.{free_kept, sound_then}
-use Rattle.bit_alloc.proofs.Passing.{through_try, cause_on, other_fault_on, no_fault_of}
+use Rattle.bit_alloc.proofs.Passing.{through_try, cause_on, other_fault_on}
 use Rattle.block_map.proofs.Linking.{link_fits, IsMade, link_made}
 use Rattle.block_map.proofs.Rewritten.{filled}
 use Rattle.sector_txn.proofs.TransactionRuns.{store_joined}
@@ -26,28 +26,13 @@ is_made g c =
     link_made c.requires.sound c.in_ok-ino.ensures.taken c.in_ok-ino.ensures.puts c.in_ok-link.ensures.taken.puts c.args.uid c.args.gid c.args.target.now _ c.requires.clear c.requires.target
     (filled 0 c.copy_from_slice.ensures.after refl) c.in_ok-link.ensures.taken.taken fits c.in_ok-write_inode.ensures.saved c.in_ok-link.ensures.taken.free c.in_ok-write_inode.ensures.puts
 
-pub returns-clause-sound : goal.returns-clause-sound
-returns-clause-sound g c =
-    sound_then c.args.geometry c.in_ok-ino.ino 1 2 (g.S.Sectors.state c.args.s.now) (g.S.Sectors.state c.write_inode.new.s) c.requires.sound
-    (c.in_ok-ino.ensures.taken.free.0, c.in_ok-ino.ensures.taken.free.1) (is_made g c).touches
-
-pub returns-clause-touches : goal.returns-clause-touches
-returns-clause-touches g c = (is_made g c).touches
-
-pub returns-clause-used : goal.returns-clause-used
-returns-clause-used g c = (is_made g c).used
-
-pub returns-clause-fields : goal.returns-clause-fields
-returns-clause-fields g c = (is_made g c).fields
-
-pub returns-clause-acls : goal.returns-clause-acls
-returns-clause-acls g c = (is_made g c).acls
-
-pub returns-clause-holds : goal.returns-clause-holds
-returns-clause-holds g c = (is_made g c).holds
-
-pub returns-clause-whole : goal.returns-clause-whole
-returns-clause-whole g c = (is_made g c).whole
+pub returns : goal.returns
+returns g c =
+    let m = is_made g c in
+    let store = m.touches.puts.store in
+    let free = c.in_ok-ino.ensures.taken.free in
+    let sound = sound_then c.args.geometry c.in_ok-ino.ino 1 2 (g.S.Sectors.state c.args.s.now) (g.S.Sectors.state c.write_inode.new.s) c.requires.sound (free.0, free.1) m.touches in
+    search rules
 
 pub returns-in_err-link-clause-store : goal.returns-in_err-link-clause-store
 returns-in_err-link-clause-store g c = store_joined c.in_ok-ino.ensures.puts.store c.in_err-link.ensures.store
@@ -62,9 +47,3 @@ returns-in_err-write_inode-clause-store g c = store_joined (store_joined c.in_ok
 pub returns-in_err-write_inode-clause-cause : goal.returns-in_err-write_inode-clause-cause
 returns-in_err-write_inode-clause-cause g c =
     other_fault_on (store_joined c.in_ok-ino.ensures.puts.store c.in_ok-link.ensures.taken.puts.store) c.in_err-write_inode.ensures.cause c.from_residual-in_err-write_inode.result c.from_residual-in_err-write_inode.ensures.0
-
-pub returns-clause-store : goal.returns-clause-store
-returns-clause-store g c = (is_made g c).touches.puts.store
-
-pub returns-clause-cause : goal.returns-clause-cause
-returns-clause-cause g c = no_fault_of (is_made g c).touches.puts.store

@@ -15,7 +15,7 @@ use Rattle.block_map.proofs.Numbers.{loaded_sector}
 use Rattle.block_map.proofs.Running.{loaded_data, run_written, run_puts}
 use Rattle.block_map.proofs.Writings.{shares_pointers}
 use Rattle.bit_alloc.proofs.Passing.{no_fault_of}
-use Rattle.block_map.proofs.run.write_run.Goals as goal
+use Rattle.block_map.proofs.write.write_run.Goals as goal
 
 pub put-requires-clause-part : goal.put-requires-clause-part
 put-requires-clause-part g c =

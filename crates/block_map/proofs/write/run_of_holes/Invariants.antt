@@ -2,7 +2,7 @@ use Rattle.std.proofs.Common.{◌≡◌, ◌≤◌, ◌<◌, ◌+◌, ℕ}
 use Rattle.fs_layout.specs.Bytes.{SectorMap}
 use Rattle.fs_layout.specs.Images.{pointer}
 use Rattle.block_map.specs.Blocks.{IsLoaded}
-use Rattle.block_map.proofs.run.run_of_holes.Given as goal
+use Rattle.block_map.proofs.write.run_of_holes.Given as goal
 
 abbrev pub invariant-loop-i : goal.invariant-loop-i
 invariant-loop-i l = record {

@@ -2,7 +2,7 @@ use Rattle.std.proofs.Common.{◌+◌, ◌-◌, ◌≤◌}
 use Rattle.fs_layout.specs.declared.inode.TheConstants.{POINTER_LEVELS}
 use Rattle.block_map.specs.Blocks.{IsAtHand}
 use Rattle.block_map.proofs.Adding.{IsAdded, above_of}
-use Rattle.block_map.proofs.pointers.+add_numbers.Given as goal
+use Rattle.block_map.proofs.steps.+add_numbers.Given as goal
 
 abbrev pub decreases-add_numbers : goal.decreases-add_numbers
 decreases-add_numbers g l = POINTER_LEVELS + 1 - l.level

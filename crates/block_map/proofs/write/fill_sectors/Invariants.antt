@@ -2,7 +2,7 @@ use Rattle.std.proofs.Common.{◌≤◌, [], length}
 use Rattle.sector_txn.specs.Sectors.{PutsOnly}
 use Rattle.bit_alloc.specs.Bitmaps.{IsNumberOf}
 use Rattle.block_map.specs.Steps.{FillsSectors}
-use Rattle.block_map.proofs.run.fill_sectors.Given as goal
+use Rattle.block_map.proofs.write.fill_sectors.Given as goal
 
 abbrev pub invariant-loop-i : goal.invariant-loop-i
 invariant-loop-i g l = record {

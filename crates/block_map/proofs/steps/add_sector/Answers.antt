@@ -6,7 +6,7 @@ use Rattle.block_map.specs.Steps.{AddsSector, HasRoomFor, sectors_to}
 use Rattle.block_map.proofs.AddedPointers.{adds_beside, sectors_far}
 use Rattle.block_map.proofs.Rooms.{lacking-append}
 use Rattle.block_map.proofs.Runs.{same_fault}
-use Rattle.block_map.proofs.pointers.add_sector.Goals as goal
+use Rattle.block_map.proofs.steps.add_sector.Goals as goal
 
 pub add_named-requires-clause-inside : goal.add_named-requires-clause-inside
 add_named-requires-clause-inside g c = subst (λ (i : ℕ). 512 * first_block c.args.level i < c.args.blocks.now.inode.size) c.if-i-eq0.true c.requires.inside

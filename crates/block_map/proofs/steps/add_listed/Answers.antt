@@ -12,7 +12,7 @@ use Rattle.block_map.proofs.Numbers.{at_hand_unchanged, next_pointers}
 use Rattle.bit_alloc.proofs.Passing.{cause_on, no_fault_of}
 use Rattle.block_map.proofs.Runs.{same_fault, same_map}
 use Rattle.block_map.proofs.Wrote.{free_same, may_within}
-use Rattle.block_map.proofs.pointers.add_listed.Goals as goal
+use Rattle.block_map.proofs.steps.add_listed.Goals as goal
 
 pub read_pointers-requires-clause-within : goal.read_pointers-requires-clause-within
 read_pointers-requires-clause-within g c = may_within c.requires.may

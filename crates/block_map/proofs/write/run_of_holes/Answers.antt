@@ -2,7 +2,7 @@ use Rattle.std.proofs.Common.{◌≡◌, ◌+◌, ℕ, sym, subst, ◌∙◌, ar
 use Rattle.std.proofs.lemmas.Bool.{cases_lt}
 use Rattle.fs_layout.specs.Images.{pointer}
 use Rattle.block_map.proofs.Running.{loaded_further}
-use Rattle.block_map.proofs.run.run_of_holes.Goals as goal
+use Rattle.block_map.proofs.write.run_of_holes.Goals as goal
 
 pub loop-i-init : goal.loop-i-init
 loop-i-init c = record { within = omega arith; holes = λ image loaded j low high. absurd (omega (arith, low, high)) }

@@ -2,7 +2,7 @@ use Rattle.std.proofs.Common.{refl, sym, ◌∙◌}
 use Rattle.fs_layout.specs.Bytes.{zeros}
 use Rattle.block_map.proofs.AddedPointers.{sector_there, first_named, named_at_hand, sets_named}
 use Rattle.block_map.proofs.Rewritten.{was_full}
-use Rattle.block_map.proofs.pointers.add_named.Goals as goal
+use Rattle.block_map.proofs.steps.add_named.Goals as goal
 
 pub returns-then-blocks-level-ne0-clause-added : goal.returns-then-blocks-level-ne0-clause-added
 returns-then-blocks-level-ne0-clause-added g c =

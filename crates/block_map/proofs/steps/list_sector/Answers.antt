@@ -12,7 +12,7 @@ use Rattle.block_map.proofs.Rewritten.{was_full}
 use Rattle.block_map.proofs.Rooms.{lacking_beside, lacking_unput, puts_beside}
 use Rattle.block_map.proofs.Wrote.{may_within, pointers_puts}
 use Rattle.bit_alloc.proofs.Passing.{no_fault_of}
-use Rattle.block_map.proofs.pointers.list_sector.Goals as goal
+use Rattle.block_map.proofs.steps.list_sector.Goals as goal
 
 pub take_sector-requires-clause-room : goal.take_sector-requires-clause-room
 take_sector-requires-clause-room g c =

@@ -8,7 +8,7 @@ use Rattle.block_map.specs.Steps.{AddsNumbers, most_for}
 use Rattle.block_map.proofs.Adding.{adds_pointers, first_level_lacks, needs_no_pointers}
 use Rattle.block_map.proofs.Counts.{most_far}
 use Rattle.block_map.proofs.Runs.{same_fault}
-use Rattle.block_map.proofs.pointers.add_pointers.Goals as goal
+use Rattle.block_map.proofs.steps.add_pointers.Goals as goal
 
 pub returns-then-end-le-DIRECT_BLOCKS-clause-added : goal.returns-then-end-le-DIRECT_BLOCKS-clause-added
 returns-then-end-le-DIRECT_BLOCKS-clause-added g c = needs_no_pointers c.requires.may (inl c.if-end-le-DIRECT_BLOCKS.true)

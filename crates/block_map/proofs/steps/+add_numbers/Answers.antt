@@ -11,7 +11,7 @@ use Rattle.block_map.proofs.Alterings.{may_after}
 use Rattle.block_map.proofs.Counts.{most_least}
 use Rattle.bit_alloc.proofs.Passing.{cause_on, no_fault_of}
 use Rattle.block_map.proofs.Runs.{same_fault}
-use Rattle.block_map.proofs.pointers.+add_numbers.Goals as goal
+use Rattle.block_map.proofs.steps.+add_numbers.Goals as goal
 
 -- ---- the first alone
 pub add_named-requires-clause-inside : goal.add_named-requires-clause-inside

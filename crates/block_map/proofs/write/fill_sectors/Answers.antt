@@ -8,7 +8,7 @@ use Rattle.bit_alloc.specs.Bitmaps.{IsNumberOf}
 use Rattle.bit_alloc.proofs.Listed.{listed_wider}
 use Rattle.block_map.specs.Steps.{FillsSectors, block_of}
 use Rattle.block_map.proofs.Filling.{fills_none, fills_one}
-use Rattle.block_map.proofs.run.fill_sectors.Goals as goal
+use Rattle.block_map.proofs.write.fill_sectors.Goals as goal
 
 pub loop-i-init : goal.loop-i-init
 loop-i-init g c = record { within = omega arith; filled = fills_none; puts = changes_nothing [] }
