@@ -34,7 +34,7 @@ use Rattle.block_map.specs.Steps.{IsStepSector}
 use Rattle.block_map.proofs.AddedPointers.{alters_nothing}
 use Rattle.block_map.proofs.Overwriting.{used_may_change, changed_unsaved}
 use Rattle.block_map.proofs.Wrote.{may_within}
-use Rattle.dir_core.specs.declared.find.FoundSlot.{FoundSlot}
+use Rattle.dir_core.specs.declared.names.FoundSlot.{FoundSlot}
 use Rattle.dir_core.specs.Slots.{HasSlots, IsFoundIn}
 use Rattle.std.specs.Prelude.{is_some, IsErr, IsErrAnd, IfErr}
 use Rattle.std.proofs.lemmas.Bool.{true≢false}

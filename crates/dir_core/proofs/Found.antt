@@ -11,7 +11,7 @@ use Rattle.fs_layout.specs.Maps.{name_cmp, get}
 use Rattle.fs_layout.specs.Directories.{NamedInode, names_of_slots, slots_bytes, HaveDistinctNames}
 use Rattle.fs_layout.proofs.ImageSlots.{length-slots}
 use Rattle.fs_layout.proofs.ReadNames.{are_names_of}
-use Rattle.dir_core.specs.declared.find.FoundSlot.{FoundSlot}
+use Rattle.dir_core.specs.declared.names.FoundSlot.{FoundSlot}
 use Rattle.dir_core.specs.Slots.{HasSlots, IsBlock, IsSlotAt, IsFoundInBlock, IsFoundIn}
 use Rattle.dir_core.proofs.Pieces.{slot_there}
 use Rattle.dir_core.proofs.SlotPlaces.{place_within, block_of, block_again, place_again, slot_ends_within, slots_past}

@@ -13,7 +13,7 @@ use Rattle.fs_layout.specs.declared.inode.Kind.TheVariants as kinds
 use Rattle.fs_layout.specs.Bytes.{SectorMap, window}
 use Rattle.fs_layout.specs.Images.{byte_at, Holds, HasNoHole}
 use Rattle.fs_layout.specs.Directories.{NamedInode, FitsSlot, HaveDistinctNames, slot_bytes, slots_bytes}
-use Rattle.dir_core.specs.declared.find.FoundSlot.{FoundSlot}
+use Rattle.dir_core.specs.declared.names.FoundSlot.{FoundSlot}
 
 -- the inode is a directory, and these are its slots
 pub record HasSlots (version : Version) (image : SectorMap) (v : Inode) (slots : List NamedInode) : Type 0 where

@@ -21,13 +21,10 @@
 //! block alone, and the pointers to it. Where the name has left the block, both are read beside the others.
 #![tactic(auto)]
 
-mod change;
 mod fault;
-mod find;
 mod listing;
 mod names;
 
-pub use change::{insert, insert_new, remove, rename, replace};
 pub use fault::DirFault;
 pub use listing::list;
-pub use names::{is_empty, lookup};
+pub use names::{insert, insert_new, is_empty, lookup, remove, rename, replace};

@@ -13,7 +13,7 @@ ghost use Rattle.dir_core.specs.Slots.{HasSlots, IsBlock, name_entry};
 ghost use Rattle.dir_core.specs.declared.fault.DirFault.TheVariants.{DiskFault as Device, OutOfMemory};
 
 use crate::DirFault;
-use crate::find::hint_key;
+use crate::names::hint_key;
 use block_map::Blocks;
 use fs_layout::{Geometry, Inode, Slot, Version};
 use sector_disk::DiskFault;

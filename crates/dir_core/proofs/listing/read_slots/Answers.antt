@@ -7,7 +7,7 @@ use Rattle.fs_layout.proofs.Codecs.{same_ok}
 use Rattle.block_map.proofs.Numbers.{at_hand_unchanged}
 use Rattle.block_map.proofs.Runs.{unchanged_joined}
 use Rattle.dir_core.specs.Slots.{IsSlotAt}
-use Rattle.dir_core.proofs.SlotPlaces.{first_of_block}
+use Rattle.dir_core.proofs.SlotPlaces.{first_of_block, place_within, slot_ends_within}
 use Rattle.dir_core.proofs.Pieces.{slot_there, slots_are}
 use Rattle.dir_core.proofs.Scans.{within_later, block_later, block_before, block_stays}
 use Rattle.bit_alloc.proofs.Passing.{through_try, other_fault_on, no_fault_of, not_of_disk}
@@ -106,3 +106,16 @@ returns-clause-same g c = c.loop-k.invariant.same
 
 pub returns-clause-cause : goal.returns-clause-cause
 returns-clause-cause g c = no_fault_of c.loop-k.invariant.same.store
+
+pub overflow_mul-at : goal.overflow_mul-at
+overflow_mul-at g c =
+    let inside = slot_ends_within c.args.version (c.loop-k.k % block_slots c.args.version) (place_within c.args.version c.loop-k.k) in
+    rw (c.slot_size-slot_size.ensures, c.block_slots-block_slots.ensures) (omega (arith, inside))
+
+pub read_in-requires : goal.read_in-requires
+read_in-requires g c =
+    rw (c.slot_size-slot_size.ensures, c.block_slots-block_slots.ensures)
+    (slot_ends_within c.args.version (c.loop-k.k % block_slots c.args.version) (place_within c.args.version c.loop-k.k))
+
+pub read_block_of-requires-clause-pointers : goal.read_block_of-requires-clause-pointers
+read_block_of-requires-clause-pointers g c = c.loop-k.invariant.pointers

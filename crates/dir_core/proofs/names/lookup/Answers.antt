@@ -1,7 +1,7 @@
 use Rattle.std.proofs.Common.{◌≡◌, ◌∙◌, sym, ap, rules}
 use Rattle.std.specs.Option.{option_map}
 use Rattle.fs_layout.specs.Maps.{get, name_cmp}
-use Rattle.dir_core.specs.declared.find.FoundSlot.{FoundSlot}
+use Rattle.dir_core.specs.declared.names.FoundSlot.{FoundSlot}
 use Rattle.dir_core.proofs.Scans.{inode_within, slots_of_names}
 use Rattle.dir_core.proofs.Found.{found_is_entry}
 use Rattle.dir_core.proofs.names.lookup.Goals as goal
