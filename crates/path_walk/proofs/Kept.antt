@@ -99,3 +99,14 @@ cause_of old new r e later err and cause = record { later = later; failed = fail
 pub if_err : {A : Type 0} (P : A → Type 0) (r : Result A Refusal) → IsErr r → IfOk r P
 if_err P (Ok x) err = absurd (ok_is_no_err x err)
 if_err P (Err e) err = tt
+
+-- an error since a read that changed nothing, with the cause of what interrupted
+pub caused_behind : {A : Type 0} {old mid : TxnState} (new : DiskState) (r : Result A Refusal) (e : Refusal) → IsUnchanged old mid → IsErr r
+    → IsErrAnd r (λ y. y ≡ e) → Interrupts mid.disk new e → IfErr r (IsCaused old.disk new)
+caused_behind {old = old} {mid} new r e same err and way =
+    failed_with r e (IsCaused old.disk new) err and (caused_later new same (interrupt_caused mid.disk new e way))
+
+-- the same of a call that changes nothing
+pub cause_then : {A : Type 0} {old new : TxnState} (r : Result A Refusal) (e : Refusal) → IsUnchanged old new → IsErr r → IsErrAnd r (λ y. y ≡ e)
+    → IsCaused old.disk new.disk e → HasCauseOf (Failed EIO) old.disk new.disk r
+cause_then {old = old} {new} r e same err and cause = cause_of old.disk new.disk r e same.store.reads.failures err and cause

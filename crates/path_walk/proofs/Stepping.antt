@@ -1,5 +1,5 @@
 -- One lookup and where it leads, for a walker.
-use Rattle.std.specs.Prelude.{◌≡◌, ◌≢◌, ℕ, ◌+◌, ◌-◌, ◌≤◌, Bool, true, false, ◌||◌, ◌&&◌, List, ◌∷◌, ◌++◌, length, drop, None, Some, Ok}
+use Rattle.std.specs.Prelude.{◌≡◌, ◌≢◌, ℕ, ◌+◌, ◌-◌, ◌≤◌, Bool, true, false, cond, ◌||◌, ◌&&◌, List, ◌∷◌, ◌++◌, length, drop, None, Some, Ok}
 use Rattle.std.proofs.Common.{refl, sym, ap, subst, arith, ◌∙◌, inr, length-append, length-drop}
 use Rattle.fs_cred.specs.Credentials.{Credential}
 use Rattle.fs_layout.specs.declared.inode.Kind.{Kind}
@@ -7,7 +7,7 @@ use Rattle.fs_layout.specs.declared.inode.Kind.TheVariants as kinds
 use Rattle.fs_layout.specs.declared.geometry.Geometry.{Geometry}
 use Rattle.fs_layout.specs.Bytes.{SectorMap}
 use Rattle.fs_model.specs.Demands.{Demand, search_on}
-use Rattle.fs_model.specs.Parts.{slash, parts_of, start_of, ends_with_slash}
+use Rattle.fs_model.specs.Parts.{slash, parts_of, start_of, begins_with_slash, ends_with_slash}
 use Rattle.fs_model.specs.Stands.{room_of}
 use Rattle.fs_model.specs.Summaries.{is_link_kind}
 use Rattle.fs_model.specs.Trails.{Outcome, Faulty, Absent, Reaches, Through}
@@ -18,6 +18,8 @@ use Rattle.path_walk.specs.Answers.{refused_or}
 use Rattle.path_walk.specs.HeldTrees.{HoldsTree, IsThere}
 use Rattle.path_walk.specs.Lookups.{looked_up_alone, found_as, lookup_of}
 use Rattle.path_walk.specs.Stages.{IsBehind, IsWay}
+use Rattle.fs_model.specs.Limits.{root}
+use Rattle.path_walk.proofs.Kept.{answer, same_ok}
 
 -- what a lookup finds is there
 pub found_there : {p : Geometry} {image : SectorMap} {t : Tree} → HoldsTree p image t → (cred : Credential) (walk k dir_ino : ℕ) (name : List ℕ) (n : ℕ)
@@ -55,7 +57,7 @@ behind_way w new target is_last b short =
     }
 
 -- the target comes before the rest
-pub behind_is : (w new : Walker) (target bytes slice : List ℕ) (is_last : Bool) → bytes ≡ target → slice ≡ drop w.at w.rest.items
+behind_is : (w new : Walker) (target bytes slice : List ℕ) (is_last : Bool) → bytes ≡ target → slice ≡ drop w.at w.rest.items
     → new.rest.items ≡ bytes ++ (slash ∷ slice) → w.links ≢ 0 → new.slash ≡ (w.slash || (is_last && ends_with_slash bytes))
     → new.here ≡ start_of (parts_of bytes) w.here
     → new ≡ (record w { here = new.here; inode = new.inode; rest = new.rest; at = 0; slash = new.slash; links = w.links - 1 }) → IsBehind target is_last w new
@@ -68,3 +70,17 @@ behind_is w new target bytes slice is_last b s rest some at_end here is =
       slash_is = at_end ∙ ap (λ (l : List ℕ). w.slash || (is_last && ends_with_slash l)) b;
       is = is ∙ ap (λ (l : ℕ). record w { here = new.here; inode = new.inode; rest = new.rest; at = 0; slash = new.slash; links = l }) (sym less);
     }
+
+-- what following a link comes to, where its target was read
+pub followed : {w new : Walker} {read bytes slice : List ℕ} {is_last absolute : Bool} (P : List ℕ → Type 0) → bytes ≡ read → slice ≡ drop w.at w.rest.items
+    → new.rest.items ≡ bytes ++ (slash ∷ slice) → w.links ≢ 0 → new.slash ≡ (w.slash || (is_last && ends_with_slash bytes)) → begins_with_slash bytes ≡ absolute
+    → new.here ≡ cond absolute root w.here
+    → new ≡ (record w { here = new.here; inode = new.inode; rest = new.rest; at = 0; slash = new.slash; links = w.links - 1 })
+    → length read ≤ 512 → ((held : List ℕ) → P held → answer held ≡ answer read)
+    → (target : List ℕ) × IsBehind target is_last w new × (length target ≤ 512) × ((held : List ℕ) → P held → target ≡ held)
+followed {w} {new} {read} {bytes} {slice} {is_last} P b s rest some at_end way here is short each = (
+  read,
+  behind_is w new read bytes slice is_last b s rest some at_end (here ∙ ap (λ (a : Bool). cond a root w.here) (sym way)) is,
+  short,
+  λ held h. sym (same_ok _ _ (each held h)),
+)

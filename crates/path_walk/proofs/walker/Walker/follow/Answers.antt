@@ -1,12 +1,11 @@
-use Rattle.std.proofs.Common.{◌≡◌, length, drop, Bool, true, false, cond, refl, sym, ap, ◌∙◌, inl, inr, arith}
+use Rattle.std.proofs.Common.{drop, refl, sym, ap, ◌∙◌, inl, inr, arith}
 use Rattle.std.proofs.lemmas.List.{take_rest}
 use Rattle.fs_layout.specs.Bytes.{SectorMap}
-use Rattle.fs_layout.specs.Images.{inode_at}
-use Rattle.fs_model.specs.Parts.{begins_with_slash}
+use Rattle.fs_layout.specs.Images.{Holds, inode_at}
 use Rattle.block_map.proofs.Runs.{unchanged_joined}
 use Rattle.path_walk.proofs.Kept.{same_map, sound_kept, interrupted, interrupts_later, same_ok, on_err, failed_with}
 use Rattle.fs_model.specs.Limits.{root}
-use Rattle.path_walk.proofs.Stepping.{behind_is}
+use Rattle.path_walk.proofs.Stepping.{followed}
 use Rattle.path_walk.proofs.walker.Walker.follow.Goals as goal
 
 pub returns-then-self-eq0-clause-err : goal.returns-then-self-eq0-clause-err
@@ -48,31 +47,15 @@ load_inode-requires-clause-below g c = let least = c.requires.sound.consistent.g
 
 pub returns-then-not-begins_with_slash-clause-behind : goal.returns-then-not-begins_with_slash-clause-behind
 returns-then-not-begins_with_slash-clause-behind g c =
-    let w = c.args.self.now in
-    let target = c.bytes-target.result.now in
-    let way : begins_with_slash target ≡ false = sym c.begins_with_slash.ensures ∙ c.if-not-begins_with_slash.true in
-    let short = c.in_ok-target.ensures.short in
-    let all = ap length c.bytes-target.ensures.all in (
-      target,
-      behind_is w _ target target _ c.args.is_last refl (take_rest c.deref.result.now w.at ∙ ap (drop w.at) c.deref.ensures.value) c.in_ok-self.ensures c.if-self-eq0.false
-          c.slash_behind-self.ensures (sym (ap (λ (b : Bool). cond b root w.here) way)) refl,
-      omega (arith, short, all),
-      λ held h. c.bytes-target.ensures.all ∙ sym (same_ok _ _ (c.in_ok-target.ensures.each held h)),
-    )
+    followed (Holds (g.S.Sectors.state c.args.s.now).sectors c.args.link.now) c.bytes-target.ensures.all
+    (take_rest c.deref.result.now c.args.self.now.at ∙ ap (drop c.args.self.now.at) c.deref.ensures.value) c.in_ok-self.ensures c.if-self-eq0.false
+    c.slash_behind-self.ensures (sym c.begins_with_slash.ensures ∙ c.if-not-begins_with_slash.true) refl refl c.in_ok-target.ensures.short c.in_ok-target.ensures.each
 
 pub returns-clause-behind : goal.returns-clause-behind
 returns-clause-behind g c =
-    let w = c.args.self.now in
-    let target = c.bytes-target.result.now in
-    let way : begins_with_slash target ≡ true = sym c.begins_with_slash.ensures ∙ c.if-not-begins_with_slash.false in
-    let short = c.in_ok-target.ensures.short in
-    let all = ap length c.bytes-target.ensures.all in (
-      target,
-      behind_is w _ target target _ c.args.is_last refl (take_rest c.deref.result.now w.at ∙ ap (drop w.at) c.deref.ensures.value) c.in_ok-self.ensures c.if-self-eq0.false
-          c.slash_behind-self.ensures (sym (ap (λ (b : Bool). cond b root w.here) way)) refl,
-      omega (arith, short, all),
-      λ held h. c.bytes-target.ensures.all ∙ sym (same_ok _ _ (c.in_ok-target.ensures.each held h)),
-    )
+    followed (Holds (g.S.Sectors.state c.args.s.now).sectors c.args.link.now) c.bytes-target.ensures.all
+    (take_rest c.deref.result.now c.args.self.now.at ∙ ap (drop c.args.self.now.at) c.deref.ensures.value) c.in_ok-self.ensures c.if-self-eq0.false
+    c.slash_behind-self.ensures (sym c.begins_with_slash.ensures ∙ c.if-not-begins_with_slash.false) refl refl c.in_ok-target.ensures.short c.in_ok-target.ensures.each
 
 pub returns-in_err-self-2-clause-err : goal.returns-in_err-self-2-clause-err
 returns-in_err-self-2-clause-err g c =

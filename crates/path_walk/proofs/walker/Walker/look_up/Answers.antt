@@ -12,7 +12,7 @@ use Rattle.fs_model.specs.Trails.{named_inode}
 use Rattle.path_walk.specs.HeldTrees.{HoldsTree}
 use Rattle.path_walk.specs.SoundInodes.{LeadsOn, IsSoundInode}
 use Rattle.path_walk.specs.Lookups.{lookup_of}
-use Rattle.path_walk.proofs.Kept.{same_map, kept, sound_kept, interrupts_later, answered_err, interrupted, same_ok, failed_with, if_err, interrupt_caused, caused_later}
+use Rattle.path_walk.proofs.Kept.{same_map, kept, sound_kept, interrupts_later, answered_err, interrupted, same_ok, failed_with, if_err, caused_behind}
 use Rattle.path_walk.proofs.HeldInodes.{directory_kind}
 use Rattle.path_walk.proofs.Finding.{no_directory, searched, directory_at, search_refused, too_long, is_named}
 use Rattle.block_map.proofs.Runs.{unchanged_joined}
@@ -82,11 +82,9 @@ returns-in_err-found-clause-below g c = if_err _ c.from_residual-in_err-found.re
 
 pub returns-in_err-found-clause-cause : goal.returns-in_err-found-clause-cause
 returns-in_err-found-clause-cause g c =
-    let mid = g.S.Sectors.state c.search.new.s in
-    let new = g.S.Sectors.state c.find.new.s in
     let r = c.from_residual-in_err-found.ensures in
-    failed_with c.from_residual-in_err-found.result c.in_err-found.field-0.0 _ r.0 r.1
-    (caused_later new.disk c.in_ok-search.ensures.same (interrupt_caused mid.disk new.disk c.in_err-found.field-0.0 c.in_err-found.ensures.err))
+    caused_behind (g.S.Sectors.state c.find.new.s).disk c.from_residual-in_err-found.result c.in_err-found.field-0.0 c.in_ok-search.ensures.same r.0 r.1
+    c.in_err-found.ensures.err
 
 pub returns-in_err-found-clause-each : goal.returns-in_err-found-clause-each
 returns-in_err-found-clause-each g c = λ t h there.

@@ -16,7 +16,7 @@ use Rattle.path_walk.specs.Lookups.{lookup_of}
 use Rattle.path_walk.specs.Stages.{names_ahead, IsStep, StandsAt, IsBehind}
 use Rattle.block_map.proofs.Runs.{unchanged_joined}
 use Rattle.path_walk.proofs.HeldNodes.{starts_there}
-use Rattle.path_walk.proofs.Kept.{same_map, kept, kept_back, sound_kept, is_err, interrupted, interrupts_later, same_ok, on_err, failed_with, interrupt_caused, loop_caused, caused_later}
+use Rattle.path_walk.proofs.Kept.{same_map, kept, kept_back, sound_kept, is_err, interrupted, interrupts_later, same_ok, on_err, failed_with, caused_behind, loop_caused, caused_later}
 use Rattle.path_walk.proofs.Staging.{refused_stage, lost_stage, none_stage, moved_stage, looped_stage, behind_stage, is_moved, IsFollowed, is_followed}
 use Rattle.path_walk.proofs.Stepping.{found_there, link_is, behind_way}
 use Rattle.path_walk.proofs.walker.Walker.step.Goals as goal
@@ -203,12 +203,10 @@ returns-in_err-found-clause-cause g c =
 
 pub returns-in_err-inode-clause-cause : goal.returns-in_err-inode-clause-cause
 returns-in_err-inode-clause-cause g c =
-    let mid = g.S.Sectors.state c.look_up.new.s in
     let new = g.S.Sectors.state c.load_inode.new.s in
     let r = c.from_residual-in_err-inode.ensures in
-    failed_with c.from_residual-in_err-inode.result c.in_err-inode.field-0.0 _ r.0 r.1
-    (caused_later new.disk c.in_ok-found.ensures.same (interrupt_caused mid.disk new.disk c.in_err-inode.field-0.0
-    (interrupted mid.disk new.disk _ c.in_err-inode.field-0.0 c.in_err-inode.ensures.each)))
+    caused_behind new.disk c.from_residual-in_err-inode.result c.in_err-inode.field-0.0 c.in_ok-found.ensures.same r.0 r.1
+    (interrupted (g.S.Sectors.state c.look_up.new.s).disk new.disk _ c.in_err-inode.field-0.0 c.in_err-inode.ensures.each)
 
 pub returns-in_err-follow-clause-cause : goal.returns-in_err-follow-clause-cause
 returns-in_err-follow-clause-cause g c =

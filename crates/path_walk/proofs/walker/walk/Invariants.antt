@@ -5,7 +5,7 @@ use Rattle.sector_txn.specs.Sectors.{IsUnchanged}
 use Rattle.path_walk.specs.HeldTrees.{HoldsTree, IsThere}
 use Rattle.path_walk.specs.Stages.{names_ahead, stage_of, StandsAt, bytes_ahead, HasRoom}
 use Rattle.path_walk.specs.Walked.{walk_of}
-use Rattle.path_walk.proofs.walks.walk.Given as goal
+use Rattle.path_walk.proofs.walker.walk.Given as goal
 
 abbrev pub invariant-loop-walker : goal.invariant-loop-walker
 invariant-loop-walker g l = record {

@@ -7,7 +7,7 @@ use Rattle.fs_cred.specs.declared.rule.Verdict.{Verdict}
 use Rattle.fs_cred.specs.Credentials.{Credential}
 use Rattle.fs_cred.specs.Verdicts.{verdict}
 use Rattle.inode_table.proofs.StoredAcls.{told_by_mode}
-use Rattle.path_walk.proofs.access.permission.Goals as goal
+use Rattle.path_walk.proofs.walker.permission.Goals as goal
 
 -- a verdict on what an inode says is that on the node
 same_verdict : (cred : Credential) (want : Perms) (k : NodeKind) (o g : ℕ) (a : AccessList) (v : Verdict)

@@ -4,7 +4,7 @@ use Rattle.std.specs.List.{position}
 use Rattle.std.proofs.lemmas.List.{take_rest}
 use Rattle.path_walk.specs.Components.{component_len}
 use Rattle.path_walk.proofs.Cutting.{next_none, next_found}
-use Rattle.path_walk.proofs.components.next_component.Goals as goal
+use Rattle.path_walk.proofs.walker.next_component.Goals as goal
 
 pub returns-in_err-start : goal.returns-in_err-start
 returns-in_err-start c =

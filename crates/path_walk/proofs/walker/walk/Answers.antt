@@ -17,10 +17,10 @@ use Rattle.path_walk.specs.Stages.{StandsAt, HasTaken, IsNextOf, IsStep, arrival
 use Rattle.path_walk.specs.SoundInodes.{HasSoundInodes}
 use Rattle.path_walk.specs.Walked.{walk_of}
 use Rattle.path_walk.proofs.HeldNodes.{starts_there}
-use Rattle.path_walk.proofs.Kept.{kept, kept_back, sound_kept, interrupts_later, answered_err, interrupt_caused, caused_later, cause_of}
+use Rattle.path_walk.proofs.Kept.{kept, kept_back, sound_kept, interrupts_later, answered_err, interrupt_caused, caused_later, cause_then}
 use Rattle.path_walk.proofs.Staging.{start_stage, taken_stage, end_stage}
 use Rattle.path_walk.proofs.Walking.{start_room, room_after, goes_less, steps_fit, at_taken, dir_taken, here_taken, end_caused}
-use Rattle.path_walk.proofs.walks.walk.Goals as goal
+use Rattle.path_walk.proofs.walker.walk.Goals as goal
 
 -- ---- the start
 pub start-requires-clause-sound : goal.start-requires-clause-sound
@@ -42,11 +42,9 @@ returns-in_err-walker-clause-same g c = c.in_err-walker.ensures.same
 
 pub returns-in_err-walker-clause-cause : goal.returns-in_err-walker-clause-cause
 returns-in_err-walker-clause-cause g c =
-    let old = g.S.Sectors.state c.args.s.now in
-    let new = g.S.Sectors.state c.start.new.s in
     let r = c.from_residual.ensures in
-    cause_of old.disk new.disk c.from_residual.result c.in_err-walker.field-0.0 (c.in_err-walker.ensures.same).store.reads.failures r.0 r.1
-    (interrupt_caused old.disk new.disk c.in_err-walker.field-0.0 c.in_err-walker.ensures.err)
+    cause_then c.from_residual.result c.in_err-walker.field-0.0 c.in_err-walker.ensures.same r.0 r.1
+    (interrupt_caused (g.S.Sectors.state c.args.s.now).disk (g.S.Sectors.state c.start.new.s).disk c.in_err-walker.field-0.0 c.in_err-walker.ensures.err)
 
 pub loop-walker-init : goal.loop-walker-init
 loop-walker-init g c =
@@ -91,11 +89,9 @@ returns-in_err-next-clause-same g c = c.loop-walker.invariant.same
 
 pub returns-in_err-next-clause-cause : goal.returns-in_err-next-clause-cause
 returns-in_err-next-clause-cause g c =
-    let old = g.S.Sectors.state c.args.s.now in
-    let new = g.S.Sectors.state c.loop-walker.s in
     let r = c.from_residual-in_err-next.ensures in
-    cause_of old.disk new.disk c.from_residual-in_err-next.result c.in_err-next.field-0.0 (c.loop-walker.invariant.same).store.reads.failures r.0 r.1
-    (interrupt_caused old.disk new.disk c.in_err-next.field-0.0 (inl c.in_err-next.ensures))
+    cause_then c.from_residual-in_err-next.result c.in_err-next.field-0.0 c.loop-walker.invariant.same r.0 r.1
+    (interrupt_caused (g.S.Sectors.state c.args.s.now).disk (g.S.Sectors.state c.loop-walker.s).disk c.in_err-next.field-0.0 (inl c.in_err-next.ensures))
 
 pub step-requires-clause-sound : goal.step-requires-clause-sound
 step-requires-clause-sound g c = sound_kept c.loop-walker.invariant.same c.requires.sound
@@ -143,12 +139,9 @@ returns-in_err-step-clause-same g c = unchanged_joined c.loop-walker.invariant.s
 
 pub returns-in_err-step-clause-cause : goal.returns-in_err-step-clause-cause
 returns-in_err-step-clause-cause g c =
-    let old = g.S.Sectors.state c.args.s.now in
-    let new = g.S.Sectors.state c.step.new.s in
     let r = c.from_residual-in_err-step.ensures in
-    cause_of old.disk new.disk c.from_residual-in_err-step.result c.in_err-step.field-0.0
-    (unchanged_joined c.loop-walker.invariant.same c.in_err-step.ensures.same).store.reads.failures r.0 r.1
-    (caused_later new.disk c.loop-walker.invariant.same c.in_err-step.ensures.cause)
+    cause_then c.from_residual-in_err-step.result c.in_err-step.field-0.0 (unchanged_joined c.loop-walker.invariant.same c.in_err-step.ensures.same) r.0 r.1
+    (caused_later (g.S.Sectors.state c.step.new.s).disk c.loop-walker.invariant.same c.in_err-step.ensures.cause)
 
 pub returns-then-not-branch-clause-each : goal.returns-then-not-branch-clause-each
 returns-then-not-branch-clause-each g c = λ t h there.
@@ -223,12 +216,9 @@ returns-in_err-found-clause-same g c = c.loop-walker.invariant.same
 
 pub returns-in_err-found-clause-cause : goal.returns-in_err-found-clause-cause
 returns-in_err-found-clause-cause g c =
-    let old = g.S.Sectors.state c.args.s.now in
-    let new = g.S.Sectors.state c.loop-walker.s in
-    let w = c.next.new.self in
     let r = c.from_residual-in_err-found.ensures in
-    cause_of old.disk new.disk c.from_residual-in_err-found.result c.in_err-found.field-0.0 (c.loop-walker.invariant.same).store.reads.failures r.0 r.1
-    (end_caused old.disk new.disk c.args.form w c.in_err-found.field-0.0 (sym c.arrive.ensures ∙ c.in_err-found.was))
+    cause_then c.from_residual-in_err-found.result c.in_err-found.field-0.0 c.loop-walker.invariant.same r.0 r.1
+    (end_caused (g.S.Sectors.state c.args.s.now).disk (g.S.Sectors.state c.loop-walker.s).disk c.args.form c.next.new.self c.in_err-found.field-0.0 (sym c.arrive.ensures ∙ c.in_err-found.was))
 
 pub returns-clause-each : goal.returns-clause-each
 returns-clause-each g c = λ t h there.

@@ -5,7 +5,7 @@ use Rattle.fs_layout.specs.Directories.{HasNames}
 use Rattle.fs_model.specs.Nodes.{names_of_body}
 use Rattle.path_walk.proofs.HeldNodes.{held_names, held_parent}
 use Rattle.path_walk.proofs.Finding.{dot_is, dots_are, name_is}
-use Rattle.path_walk.proofs.reads.find.Goals as goal
+use Rattle.path_walk.proofs.walker.find.Goals as goal
 
 pub returns-then-is_dot-clause-each : goal.returns-then-is_dot-clause-each
 returns-then-is_dot-clause-each g c = λ t h d.
