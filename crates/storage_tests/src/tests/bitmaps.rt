@@ -1,21 +1,22 @@
-//! Calls on bitmaps of a transaction, with what each reads and puts.
+//! Calls on bitmaps of a transaction, with what each reads and puts; the tables are made by hand.
 
-ghost use Rattle.std.specs.Prelude.{OnOk};
-ghost use Rattle.bit_alloc.specs.Bitmaps.{HasBitmaps};
+ghost use Rattle.std.specs.Prelude.{OnOk, ◌<◌, ℕ, IfOk, IsTrue};
+ghost use Rattle.bit_alloc.specs.Bitmaps.{HasBitmaps, first_sector, bit_count, IsNumber};
 ghost use Rattle.bit_alloc.specs.Room.{HasSpare};
 ghost use Rattle.blank_map.specs.Maps.{IsPlaced};
-
-mod searches;
-mod tables;
+ghost use Rattle.fs_layout.specs.Images.{bit};
+ghost use Rattle.sector_txn.specs.Sectors.{SameStore, IsUnchanged};
 
 use crate::tests::maps::{end, new_map, superblock_of};
-use bit_alloc::{Bitmap, TakeFault, count_free, give, has_free, is_taken, take, take_all};
-use blank_map::{Counted, is_number};
+use bit_alloc::{
+    Bitmap, TakeFault, count_free, first_clear, give, has_free, is_taken, take, take_all,
+};
+use blank_map::{Counted, count_bits, is_number, read_tables};
 use fs_layout::{Geometry, Version};
+use sector_disk::DiskFault;
 use sector_txn::Sectors;
 use std::alloc::Global;
 use std::test::Fail;
-use tables::{is_ready, put_all_but};
 
 // Sectors and inodes of the disk: its block bitmap has three sectors, and its data begin at sector 148.
 const SECTORS: u32 = 9000;
@@ -234,4 +235,117 @@ fn calls(rt: HostRuntime) -> Result<(), Fail> {
         assert!(rt; seen == calls.len(), "{seen}");
     }
     Ok(())
+}
+
+// Sets all bits of both bitmaps but these of one.
+fn put_all_but<S: Sectors>(s: &mut S, geometry: Geometry, map: Bitmap, clear: &[u32])
+    requires { IsPlaced geometry (S.state s.old) }
+    ensures { SameStore (S.state s.old) (S.state s.new) }
+{
+    let first = match map {
+        Bitmap::Inodes => geometry.inode_bitmap,
+        Bitmap::Blocks => geometry.block_bitmap,
+    };
+    for t in geometry.inode_bitmap..geometry.table {
+        if s.room() == 0 {
+            return;
+        }
+        s.put(t, &sector_without(t.wrapping_sub(first), clear));
+    }
+}
+
+// Sector k of such a bitmap. Those that it doesn't have are full.
+fn sector_without(k: u32, clear: &[u32]) -> [u8; 512] {
+    let mut sector = [255; 512];
+    for n in clear {
+        if *n / 4096 == k {
+            let at = *n as usize % 4096 / 8;
+            sector[at] &= !(1 << (*n % 8));
+        }
+    }
+    sector
+}
+
+// Whether the tables are as asked, and all bitmaps can be put.
+fn is_ready<S: Sectors>(s: &mut S, geometry: Geometry) -> Result<bool, DiskFault>
+    requires { IsPlaced geometry (S.state s.old) }
+    ensures bitmaps { IfOk result (λ b. IsTrue b → HasBitmaps geometry (S.state s.new)) }
+    ensures room { IfOk result (λ b. IsTrue b → HasSpare geometry 0 (S.state s.new)) }
+{
+    read_tables(s, geometry)?;
+    let inodes = has_rest_set(s, geometry, Bitmap::Inodes)?;
+    let blocks = has_rest_set(s, geometry, Bitmap::Blocks)?;
+    if !inodes {
+        return Ok(false);
+    }
+    if !blocks {
+        return Ok(false);
+    }
+    Ok(s.room() >= (geometry.table - geometry.inode_bitmap) as usize)
+}
+
+// Whether the bits of one bitmap are set that are no number's.
+fn has_rest_set<S: Sectors>(s: &mut S, geometry: Geometry, map: Bitmap) -> Result<bool, DiskFault>
+    requires { IsPlaced geometry (S.state s.old) }
+    ensures set { IfOk result (λ b. IsTrue b → (n : ℕ) → n < bit_count geometry map → (IsNumber geometry map n → ⊥)
+        → IsTrue (bit (S.state s.new).sectors (first_sector geometry map) n)) }
+    ensures same { IsUnchanged (S.state s.old) (S.state s.new) }
+{
+    for n in 0..count_bits(geometry, map) {
+        if !is_number(geometry, map, n) && !is_taken(s, geometry, map, n)? {
+            return Ok(false);
+        }
+    }
+    Ok(true)
+}
+
+// Bytes of a sector that is full besides, by their places, and its lowest clear bit.
+type Search = (&'static [(usize, u8)], Option<u32>);
+
+// One bit, or more in different words; then the last and the first byte of each vector.
+const SEARCHES: [Search; 21] = [
+    (&[], None),
+    (&[(0, 0xfe)], Some(0)),
+    (&[(511, 0x7f)], Some(4095)),
+    (&[(1, 0xfe), (37, 0xef)], Some(8)),
+    (&[(7, 0x7f), (8, 0)], Some(63)),
+    (&[(31, 0x7f)], Some(255)),
+    (&[(32, 0xfe), (500, 0)], Some(256)),
+    (&[(63, 0x7f), (64, 0)], Some(511)),
+    (&[(64, 0xfe)], Some(512)),
+    (&[(127, 0x7f)], Some(1023)),
+    (&[(128, 0xfe)], Some(1024)),
+    (&[(191, 0x7f)], Some(1535)),
+    (&[(192, 0xfe)], Some(1536)),
+    (&[(255, 0x7f)], Some(2047)),
+    (&[(256, 0xfe)], Some(2048)),
+    (&[(319, 0x7f)], Some(2559)),
+    (&[(320, 0xfe)], Some(2560)),
+    (&[(383, 0x7f)], Some(3071)),
+    (&[(384, 0xfe)], Some(3072)),
+    (&[(447, 0x7f)], Some(3583)),
+    (&[(448, 0xfe)], Some(3584)),
+];
+
+// How many searches end as their rows say, up to the first that doesn't.
+fn searched(rows: &[Search]) -> usize {
+    for (i, (bytes, lowest)) in rows.iter().enumerate() {
+        let mut sector = [0xff; 512];
+        for (at, byte) in *bytes {
+            if let Some(geometry) = sector.get_mut(*at) {
+                *geometry = *byte;
+            }
+        }
+        if first_clear(&sector) != *lowest {
+            return i;
+        }
+    }
+    rows.len()
+}
+
+#[test]
+fn lowest_clear_bits(rt: HostRuntime) {
+    let rows: &[Search] = &SEARCHES;
+    let seen = searched(rows);
+    assert!(rt; seen == rows.len(), "{seen}");
 }

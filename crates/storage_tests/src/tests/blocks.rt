@@ -1,4 +1,4 @@
-//! Calls on the bytes of one file, with what each reads and puts.
+//! Calls on the bytes of one file, and the life of a link, with what each reads and puts.
 
 ghost use Rattle.std.specs.Prelude.{◌≡◌, ◌≢◌, ◌≤◌, ◌<◌, IfOk, OnOk};
 ghost use Rattle.fs_layout.specs.declared.inode.Kind.TheVariants.{Free};
@@ -8,24 +8,21 @@ ghost use Rattle.bit_alloc.specs.Inodes.{IsBlank, IsSound};
 ghost use Rattle.bit_alloc.specs.Room.{HasSpare};
 ghost use Rattle.blank_map.specs.Maps.{IsWithoutInodes};
 ghost use Rattle.storage_tests.specs.Files.{IsFileRead};
+ghost use Rattle.sector_txn.specs.Sectors.{IsUnchanged};
+ghost use Rattle.bit_alloc.specs.Bitmaps.{HasBitmaps};
 
-mod links;
-
-use crate::tests::maps::{end, map_without_inodes, parsed, superblock_of};
+use crate::tests::maps::{end, map_without_inodes, parsed, small_disk};
 use bit_alloc::{Bitmap, count_free};
 use blank_map::Counted;
-use block_map::{MapFault, overwrite, read_at, release_all, set_size, write_at};
+use block_map::{
+    MapFault, free_all, new_link, overwrite, read_at, release_all, set_size, write_at,
+};
 use fs_layout::{Geometry, Inode, Kind, Version};
 use inode_table::{load, new_inode};
 use posix_acl::Acl;
 use sector_txn::Sectors;
 use std::alloc::Global;
 use std::test::Fail;
-
-// Sectors and inodes of the disk: its block bitmap has one sector.
-const SECTORS: u32 = 1024;
-
-const INODES: u32 = 16;
 
 #[derive(Clone, Copy)]
 enum Call {
@@ -193,7 +190,7 @@ fn agreed_on_disk(
     access: &Acl,
     rows: &[Row],
 ) -> Result<usize, Fail> {
-    let (geometry, mut s) = map_without_inodes(alloc, superblock_of(version, SECTORS, INODES))?;
+    let (geometry, mut s) = map_without_inodes(alloc, small_disk(version))?;
     let seen = agreed_on_blank(&mut s, geometry, access, rows);
     end(s);
     seen
@@ -316,6 +313,69 @@ fn calls(rt: HostRuntime) -> Result<(), Fail> {
     for (version, calls) in rows.iter() {
         let seen = agreed_of(rt.alloc(), *version, calls)?;
         assert!(rt; seen == calls.len(), "{seen}");
+    }
+    Ok(())
+}
+
+// How many inodes are free, and how many data sectors.
+type Free = (u32, u32);
+
+// The `get`s and `put`s of one call.
+type Counts = (u32, u32);
+
+// What is free before a link is made, then, and after it is freed; and what the two calls cost.
+type Life = ([Free; 3], [Counts; 2]);
+
+fn free<S: Sectors>(s: &mut S, geometry: Geometry) -> Result<Free, Fail>
+    requires { HasBitmaps geometry (S.state s.old) }
+    ensures { OnOk result (IsUnchanged (S.state s.old) (S.state s.new)) }
+{
+    let inodes = count_free(s, geometry, Bitmap::Inodes)?;
+    let blocks = count_free(s, geometry, Bitmap::Blocks)?;
+    Ok((inodes, blocks))
+}
+
+fn life<S: Sectors>(s: &mut Counted<S>, geometry: Geometry, target: &[u8]) -> Result<Life, Fail>
+    requires { IsWithoutInodes geometry (S.state s.old.inner) }
+{
+    if target.is_empty() || target.len() > 512 {
+        return Err(Fail::new("no target"));
+    }
+    let before = free(s, geometry)?;
+    s.gets = 0;
+    s.puts = 0;
+    let Ok(n) = new_link(s, geometry, 1000, 100, target) else {
+        return Err(Fail::new("not made"));
+    };
+    let made = (s.gets, s.puts);
+    let between = free(s, geometry)?;
+    s.gets = 0;
+    s.puts = 0;
+    free_all(s, geometry, n)?;
+    let freed = (s.gets, s.puts);
+    let after = free(s, geometry)?;
+    Ok(([before, between, after], [made, freed]))
+}
+
+// The life of a link on a new disk of this version.
+fn life_on_disk(alloc: Global, version: Version, target: &[u8]) -> Result<Life, Fail> {
+    let (geometry, mut s) = map_without_inodes(alloc, small_disk(version))?;
+    let seen = life(&mut s, geometry, target);
+    end(s);
+    seen
+}
+
+#[test]
+fn a_link_takes_an_inode_and_a_sector(rt: HostRuntime) -> Result<(), Fail> {
+    let wanted = ([(15, 890), (14, 889), (15, 890)], [(3, 4), (4, 3)]);
+    for (version, target) in [
+        (Version::One, b"t".as_slice()),
+        (Version::One, &[97; 512]),
+        (Version::Two, b"t"),
+        (Version::Two, &[97; 512]),
+    ] {
+        let seen = life_on_disk(rt.alloc(), version, target)?;
+        assert!(rt; seen == wanted, "{seen:?}");
     }
     Ok(())
 }

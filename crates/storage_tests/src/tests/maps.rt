@@ -65,6 +65,11 @@ pub(super) fn superblock_of(version: Version, sectors: u32, inodes: u32) -> Supe
     }
 }
 
+// That of a small disk: its block bitmap has one sector, and its inode table four.
+pub(super) fn small_disk(version: Version) -> Super {
+    superblock_of(version, 1024, 16)
+}
+
 // A transaction on a new disk with this superblock.
 #[tactic(auto, using(crate::proofs::Lives::placed_on))]
 pub(super) fn new_map(alloc: Global, superblock: Super) -> Result<Map, Fail>

@@ -2,7 +2,7 @@ use Rattle.std.proofs.Common.{arith}
 use Rattle.storage_tests.proofs.Lives.{empty_after}
 use Rattle.inode_table.proofs.Saved.{attributes_sound, attributes_keep_bytes}
 use Rattle.inode_table.proofs.Sound.{room_left}
-use Rattle.storage_tests.proofs.tests.inodes.calls.saved.Goals as goal
+use Rattle.storage_tests.proofs.tests.inodes.saved.Goals as goal
 
 pub write_inode-requires-clause-room : goal.write_inode-requires-clause-room
 write_inode-requires-clause-room g c = λ none. room_left c.args.geometry 2 (g.S.Sectors.state c.load_file.new.s.inner) c.in_ok-inode.ensures.spare (omega arith)

@@ -1,6 +1,6 @@
 use Rattle.std.proofs.Common.{arith}
 use Rattle.blank_map.proofs.Placed.{has_spare}
-use Rattle.storage_tests.proofs.tests.inodes.calls.life.Goals as goal
+use Rattle.storage_tests.proofs.tests.inodes.life.Goals as goal
 
 pub free_inode-requires-clause-spare : goal.free_inode-requires-clause-spare
 free_inode-requires-clause-spare g c =

@@ -7,7 +7,7 @@ use Rattle.bit_alloc.specs.declared.bitmap.Bitmap.TheVariants.{Inodes, Blocks}
 use Rattle.bit_alloc.specs.Bitmaps.{IsNumber, HasRestSet}
 use Rattle.bit_alloc.proofs.Transactions.{unchanged_joined, map_unchanged}
 use Rattle.blank_map.proofs.Placed.{placed_after, has_spare}
-use Rattle.storage_tests.proofs.tests.bitmaps.tables.is_ready.Goals as goal
+use Rattle.storage_tests.proofs.tests.bitmaps.is_ready.Goals as goal
 
 -- what each check says of the map that it has left is so at the end
 rest_of : (p : Geometry) (a b : SectorMap) → a ≡ b

@@ -3,7 +3,7 @@ use Rattle.fs_layout.specs.Bytes.{SectorMap}
 use Rattle.fs_layout.specs.Images.{Holds, inode_at}
 use Rattle.bit_alloc.proofs.Transactions.{map_unchanged, unchanged_joined}
 use Rattle.storage_tests.proofs.Lives.{sound_unchanged}
-use Rattle.storage_tests.proofs.tests.inodes.calls.made.Goals as goal
+use Rattle.storage_tests.proofs.tests.inodes.made.Goals as goal
 
 pub load_acl-requires-clause-sound : goal.load_acl-requires-clause-sound
 load_acl-requires-clause-sound g c =

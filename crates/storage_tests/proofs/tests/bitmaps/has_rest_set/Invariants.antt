@@ -2,7 +2,7 @@ use Rattle.std.proofs.Common.{ℕ, ◌<◌, IsTrue}
 use Rattle.fs_layout.specs.Images.{bit}
 use Rattle.sector_txn.specs.Sectors.{IsUnchanged}
 use Rattle.bit_alloc.specs.Bitmaps.{first_sector, IsNumber}
-use Rattle.storage_tests.proofs.tests.bitmaps.tables.has_rest_set.Given as goal
+use Rattle.storage_tests.proofs.tests.bitmaps.has_rest_set.Given as goal
 
 abbrev pub invariant-loop-n : goal.invariant-loop-n
 invariant-loop-n g l = record {

@@ -5,7 +5,7 @@ use Rattle.bit_alloc.proofs.Soundness.{spare_then}
 use Rattle.bit_alloc.proofs.Transactions.{map_unchanged, spare_unchanged}
 use Rattle.inode_table.specs.Inodes.{ClearAreFree}
 use Rattle.storage_tests.proofs.Lives.{sound_unchanged}
-use Rattle.storage_tests.proofs.tests.blocks.links.life.Goals as goal
+use Rattle.storage_tests.proofs.tests.blocks.life.Goals as goal
 
 pub new_link-requires-clause-sound : goal.new_link-requires-clause-sound
 new_link-requires-clause-sound g c =

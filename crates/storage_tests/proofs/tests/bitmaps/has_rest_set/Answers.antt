@@ -3,7 +3,7 @@ use Rattle.fs_layout.specs.Bytes.{SectorMap}
 use Rattle.fs_layout.specs.Images.{bit}
 use Rattle.bit_alloc.specs.Bitmaps.{first_sector}
 use Rattle.bit_alloc.proofs.Transactions.{map_unchanged}
-use Rattle.storage_tests.proofs.tests.bitmaps.tables.has_rest_set.Goals as goal
+use Rattle.storage_tests.proofs.tests.bitmaps.has_rest_set.Goals as goal
 
 pub returns-clause-set : goal.returns-clause-set
 returns-clause-set g c = λ yes n low ban.
