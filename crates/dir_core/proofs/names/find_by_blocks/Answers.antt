@@ -1,8 +1,10 @@
-use Rattle.std.proofs.Common.{◌≡◌, ℕ, ◌*◌, ◌+◌, ◌/◌, ◌≤◌, Some, length, arith, rules, sym, ap, subst, ◌∙◌}
+use Rattle.std.proofs.Common.{◌≡◌, ℕ, ◌*◌, ◌+◌, ◌/◌, ◌≤◌, Result, Ok, Err, Some, length, arith, rules, sym, ap, subst, ◌∙◌}
+use Rattle.std.specs.Prelude.{IsErr, IfOk}
 use Rattle.std.specs.Int.{div_ceil}
 use Rattle.fs_layout.specs.Version.{block_slots}
 use Rattle.dir_core.specs.Slots.{IsFoundIn, IsFoundInBlock}
 use Rattle.block_map.proofs.Numbers.{at_hand_unchanged}
+use Rattle.bit_alloc.proofs.Transactions.{unchanged_nothing}
 use Rattle.block_map.proofs.Runs.{unchanged_joined}
 use Rattle.dir_core.proofs.Found.{absent_in_block, found_in_block}
 use Rattle.dir_core.proofs.Pieces.{slots_are}
@@ -73,3 +75,19 @@ returns-clause-cause g c = no_fault c.loop-k.invariant.same.store
 
 pub read_with-requires-clause-at_hand : goal.read_with-requires-clause-at_hand
 read_with-requires-clause-at_hand g c = c.loop-k.invariant.pointers
+
+pub loop-k-init : goal.loop-k-init
+loop-k-init g c = record {
+  same = unchanged_nothing;
+  inode = c.new-blocks.ensures.inode;
+  pointers = c.new-blocks.ensures.at_hand (g.S.Sectors.state c.args.s.now).sectors;
+  absent = λ slots h i d low. absurd (omega (arith, low));
+}
+
+-- an error finds nothing
+nothing_found : {A E : Type 0} (P : A → Type 0) (r : Result A E) → IsErr r → IfOk r P
+nothing_found P (Ok x) err = absurd (cc)
+nothing_found P (Err e) err = tt
+
+pub returns-in_err-found-clause-found : goal.returns-in_err-found-clause-found
+returns-in_err-found-clause-found g c = nothing_found _ c.from_residual.result c.from_residual.ensures.0
