@@ -4,12 +4,6 @@
 //! open files. Memory is taken by [`Procs::spawn`] alone: a process has room for all its descriptors from its start.
 #![tactic(auto)]
 
-mod descriptor;
-mod descriptors;
-mod process;
 mod procs;
 
-pub use descriptor::Descriptor;
-pub use descriptors::MAX_DESCRIPTORS;
-pub use process::Process;
-pub use procs::{MAX_PROCESSES, Procs};
+pub use procs::{Descriptor, MAX_DESCRIPTORS, MAX_PROCESSES, Process, Procs};

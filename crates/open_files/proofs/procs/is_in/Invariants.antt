@@ -1,7 +1,7 @@
 use Rattle.std.proofs.Common.{◌≡◌, ◌==◌, false, take}
 use Rattle.std.specs.List.{list_any}
 use Rattle.open_files.proofs.Slots.{holds}
-use Rattle.open_files.proofs.descriptors.is_in.Given as goal
+use Rattle.open_files.proofs.procs.is_in.Given as goal
 
 -- the inode is open in none of the slots so far
 abbrev pub invariant-loop-slot : goal.invariant-loop-slot

@@ -2,7 +2,7 @@ use Rattle.std.proofs.Common.{arith, ap, sym, ◌∙◌}
 use Rattle.std.specs.Ordering.{nat_cmp}
 use Rattle.fs_layout.specs.Maps.{get}
 use Rattle.open_files.proofs.OpenSlots.{read_slot, no_slot}
-use Rattle.open_files.proofs.descriptors.Descriptors.get.Goals as goal
+use Rattle.open_files.proofs.procs.Descriptors.get.Goals as goal
 
 pub returns-then-fd-lt-MAX_DESCRIPTORS : goal.returns-then-fd-lt-MAX_DESCRIPTORS
 returns-then-fd-lt-MAX_DESCRIPTORS c =

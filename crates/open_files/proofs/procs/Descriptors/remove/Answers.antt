@@ -3,7 +3,7 @@ use Rattle.std.proofs.lemmas.List.{length-set}
 use Rattle.std.specs.Ordering.{nat_cmp}
 use Rattle.fs_layout.specs.Maps.{without}
 use Rattle.open_files.proofs.OpenSlots.{taken_out, are_descriptors}
-use Rattle.open_files.proofs.descriptors.Descriptors.remove.Goals as goal
+use Rattle.open_files.proofs.procs.Descriptors.remove.Goals as goal
 
 pub returns-clause-removed : goal.returns-clause-removed
 returns-clause-removed c =

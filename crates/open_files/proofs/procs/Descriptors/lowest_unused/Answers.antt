@@ -5,7 +5,7 @@ use Rattle.fs_layout.specs.Maps.{get}
 use Rattle.fs_model.specs.Processes.{Descriptor}
 use Rattle.open_files.specs.Tables.{lowest}
 use Rattle.open_files.proofs.OpenSlots.{lowest_in, empty_below, empty_unused}
-use Rattle.open_files.proofs.descriptors.Descriptors.lowest_unused.Goals as goal
+use Rattle.open_files.proofs.procs.Descriptors.lowest_unused.Goals as goal
 
 pub returns-clause-lowest : goal.returns-clause-lowest
 returns-clause-lowest c = c.first_empty.ensures ∙ lowest_in c.self.inside.slots c.self.invariant ∙ ap lowest c.self.view_is

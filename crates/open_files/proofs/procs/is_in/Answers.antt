@@ -1,6 +1,6 @@
 use Rattle.std.proofs.Common.{ap, sym, ◌∙◌}
 use Rattle.open_files.proofs.OpenSlots.{found_in, found_nowhere}
-use Rattle.open_files.proofs.descriptors.is_in.Goals as goal
+use Rattle.open_files.proofs.procs.is_in.Goals as goal
 
 pub returns-in-loop-slot : goal.returns-in-loop-slot
 returns-in-loop-slot c =

@@ -5,7 +5,7 @@ use Rattle.std.specs.Ordering.{nat_cmp}
 use Rattle.slab.specs.Slab.{entries_from}
 use Rattle.fs_layout.specs.Maps.{without}
 use Rattle.open_files.proofs.OpenSlots.{found_besides, besides_before, besides_after}
-use Rattle.open_files.proofs.descriptors.Descriptors.has_besides.Goals as goal
+use Rattle.open_files.proofs.procs.Descriptors.has_besides.Goals as goal
 
 pub returns-then-is_in : goal.returns-then-is_in
 returns-then-is_in c =

@@ -3,7 +3,7 @@ use Rattle.std.proofs.lemmas.List.{length-set}
 use Rattle.std.specs.Ordering.{nat_cmp}
 use Rattle.fs_layout.specs.Maps.{with_entry}
 use Rattle.open_files.proofs.OpenSlots.{put_in, are_descriptors}
-use Rattle.open_files.proofs.descriptors.Descriptors.put.Goals as goal
+use Rattle.open_files.proofs.procs.Descriptors.put.Goals as goal
 
 pub returns-clause-put : goal.returns-clause-put
 returns-clause-put c =
