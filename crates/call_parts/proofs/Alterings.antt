@@ -4,7 +4,9 @@
 --     altered_after        since before a read
 --     ready_later        since before reads, in which a call may be performed
 --     altered        by one call after another
+--     may_alter_then, may_alter_kept        what may be altered after a first call, and after reads
 use Rattle.std.specs.Prelude.{◌≡◌, ℕ, ◌+◌, ◌≤◌, IsErr, IsErrAnd, Result, Ok, Err}
+use Rattle.std.proofs.Common.{arith}
 use Rattle.fs_cred.specs.declared.refusal.Refusal.{Refusal}
 use Rattle.fs_layout.specs.declared.geometry.Geometry.{Geometry}
 use Rattle.fs_layout.specs.Bytes.{SectorMap}
@@ -21,7 +23,7 @@ use Rattle.path_walk.proofs.Kept.{kept_back, sound_kept, on_err, if_err, failed_
 use Rattle.call_parts.specs.Performing.{MayPerform}
 use Rattle.call_parts.proofs.Calling.{state_kept}
 use Rattle.call_parts.proofs.Removed.{taken_after, taken_joined}
-use Rattle.call_parts.specs.Altering.{AltersDisk, AltersTransaction}
+use Rattle.call_parts.specs.Altering.{MayAlter, AltersDisk, AltersTransaction}
 
 module _ {A : Type 0} {p : Geometry} {more : ℕ} {alteration : A → SectorMap → SectorMap → Type 0} where
   pub fails : {old new : TxnState} {e : Refusal} → SameStore old new → FailsToRead old.disk new.disk e → AltersDisk p more alteration old new (Err e)
@@ -91,3 +93,10 @@ ready_later {p} {old} {new} same ready So so = (
   },
   so,
 )
+
+-- so many sectors may still be put
+pub may_alter_then : {p : Geometry} {old mid : TxnState} {most : ℕ} (first then : ℕ) → first + then ≤ most → MayAlter p most old → TakesSpare p first old mid → IsSound p mid → MayAlter p then mid
+may_alter_then first then fits ready taken sound = let spare = ready.spare in record { sound = sound; spare = omega (arith, fits, spare, taken) }
+
+pub may_alter_kept : {p : Geometry} {more : ℕ} {old new : TxnState} → IsUnchanged old new → MayAlter p more old → MayAlter p more new
+may_alter_kept {p} {more} {old} {new} same ready = record { sound = sound_kept same ready.sound; spare = spare_unchanged p more old new ready.spare same }

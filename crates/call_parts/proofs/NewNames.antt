@@ -4,7 +4,7 @@
 --     asked_as, not_made, not_allowed, allowed        what is asked of the directory
 --     space_at, space_refused, space_met        and of a call that makes something
 --     caller_fits, new_in, ParentFits, parent_fits        the caller and the directory, in a state
---     node_made        something was made
+--     name_is_new, fresh, placed_made, node_made        something was made of a new name
 --     name_refused, name_found, made_refused, made_may_touch, made_done        a call that makes something
 use Rattle.std.specs.Prelude.{◌≡◌, ◌⊎◌, ℕ, ◌+◌, ◌-◌, ◌^◌, ◌<◌, ◌≤◌, ◌==◌, nat_lt, nat_le, List, [], ◌∷◌, ◌++◌, length, None, IsTrue, Result, Ok, Err, IsErr, IsErrAnd}
 use Rattle.std.proofs.Common.{refl, sym, ap, subst, arith, ◌∙◌, inl, inr}
@@ -32,7 +32,8 @@ use Rattle.fs_model.specs.declared.walk.Form.TheVariants.{Parent}
 use Rattle.fs_model.specs.declared.walk.Found.{Found}
 use Rattle.fs_model.specs.Births.{the_node}
 use Rattle.fs_model.specs.declared.touch.Touch.TheVariants.{Modified, Born}
-use Rattle.fs_model.specs.TreeChanges.{Make}
+use Rattle.fs_model.specs.Stands.{HoldsAll, placed}
+use Rattle.fs_model.specs.TreeChanges.{Make, changed as changed_tree, swept}
 use Rattle.fs_model.specs.Demands.{Demand, refuse, first_of}
 use Rattle.fs_model.specs.Limits.{least_free}
 use Rattle.fs_model.specs.Nodes.{Node, names_of_body, with_names}
@@ -163,31 +164,31 @@ module _ {p : Geometry} {map : SectorMap} {processes : ProcessTable} {s : State}
     space_met h = all_met asked space met (ap first_of space_is ∙ h)
 
   module _ {pid : ℕ} {form : Form} {path : List ℕ} (has : HasFound s pid q form path f) (bytes : IsBytes path) (none : f.ino ≡ None) where
-    new_name : IsNameAt s.room s.tree f.dir_ino f.name None
-    new_name = found_new at has bytes none
+    pub name_is_new : IsNameAt s.room s.tree f.dir_ino f.name None
+    name_is_new = found_new at has bytes none
 
     abbrev directory_there : IsDirectoryAt s.tree f.dir_ino
-    directory_there = record { node = new_name.node; is_there = new_name.stands; directory = new_name.directory }
+    directory_there = record { node = name_is_new.node; is_there = name_is_new.stands; directory = name_is_new.directory }
 
     pub new_in : IsNewIn p s.tree f.dir_ino f.name
     new_in = record {
       directory = directory_there;
-      is_name = new_name.is_name;
-      short = subst (λ (r : Room). length f.name ≤ r.name_limit) at.same_room new_name.short;
-      is_new = new_name.leads;
+      is_name = name_is_new.is_name;
+      short = subst (λ (r : Room). length f.name ≤ r.name_limit) at.same_room name_is_new.short;
+      is_new = name_is_new.leads;
     }
 
     -- the directory fits
     pub parent_fits : ParentFits s.room s.tree (the_node s.tree f.dir_ino)
     parent_fits =
-        let is = at.is_state.tree.each f.dir_ino (the_node s.tree f.dir_ino) (dir_is_there s.tree f.dir_ino f.name None new_name).0 in
+        let is = at.is_state.tree.each f.dir_ino (the_node s.tree f.dir_ino) (dir_is_there s.tree f.dir_ino f.name None name_is_new).0 in
         record { group = is.group; body = is.body }
 
     module _ {n : ℕ} (node : Node) (newborn : IsNewborn s.room s.tree node) (new : SectorMap) (made : MakesNode p f.dir_ino f.name n node map new) where
       abbrev directory : Node
-      directory = new_name.node
+      directory = name_is_new.node
 
-      fresh : HasNewNumber s (Make f.dir_ino f.name n node)
+      pub fresh : HasNewNumber s (Make f.dir_ino f.name n node)
       fresh =
           let free = made.takes.free in
           let below = free.1 in
@@ -203,8 +204,20 @@ module _ {p : Geometry} {map : SectorMap} {processes : ProcessTable} {s : State}
           let before = inode_at p made.mid f.dir_ino in
           let held = dir_still_held (state_tree at) directory_there n made.takes.free made.takes.change (record { node = node; names = 1; parent = f.dir_ino }) made.takes.holds made.takes.taken in
           names_held made.mid new before (inode_at p new f.dir_ino) (record { node = directory; names = names_of s.tree f.dir_ino; parent = parent s.tree f.dir_ino }) held
-          (with_entry name_cmp (names_of_body directory.body) f.name n) new_name.directory made.names.kept made.names.acls
-          (made.names.named (names_of_body directory.body) (names_say p.version made.mid before directory.body new_name.directory held.body))
+          (with_entry name_cmp (names_of_body directory.body) f.name n) name_is_new.directory made.names.kept made.names.acls
+          (made.names.named (names_of_body directory.body) (names_say p.version made.mid before directory.body name_is_new.directory held.body))
+
+      -- the map holds the tree with it
+      pub placed_made : (now : ProcessTable) → ((k : ℕ) → IsTrue (is_open s.processes k) → IsTrue (is_open now k)) → length (names_of_body directory.body) < max_names p.version
+          → HoldsAll p new (placed (swept (changed_tree s.tree (Make f.dir_ino f.name n node)) now))
+      placed_made now still few =
+          make_held s at.is_state at.up now still p map at.holds at.same_room made.mid new f.dir_ino directory f.name n node (record {
+            takes = takes_new name_is_new (subst (λ (r : Room). length (names_of_body directory.body) < r.entries_limit) (sym at.same_room) few);
+            positive = fresh.0;
+            below = fresh.1;
+            unused = fresh.2;
+            newborn = newborn;
+          }) made.takes.change made.takes.taken made.takes.holds made.names.change made.names.used renamed_held
 
       -- the node was made
       pub node_made : (asked : List Demand) → first_of asked ≡ None → first_of (make_asked p map q.cred s.tree f.dir_ino (f.step - 1)) ≡ None
@@ -216,16 +229,8 @@ module _ {p : Geometry} {map : SectorMap} {processes : ProcessTable} {s : State}
         is = refl;
         new_number = fresh;
         times = refl;
-        holds =
-            let few = subst (λ (u : Node). length (names_of_body u.body) < max_names p.version) (the_node_is s.tree f.dir_ino directory new_name.stands) (has_few p map s.tree f.dir_ino q.cred (f.step - 1) allows) in
-            make_held s at.is_state at.up processes (λ k is. subst (λ (d : ProcessTable). IsTrue (is_open d k)) at.same_processes is) p map at.holds at.same_room
-            made.mid new f.dir_ino directory f.name n node (record {
-              takes = takes_new new_name (subst (λ (r : Room). length (names_of_body directory.body) < r.entries_limit) (sym at.same_room) few);
-              positive = fresh.0;
-              below = fresh.1;
-              unused = fresh.2;
-              newborn = newborn;
-            }) made.takes.change made.takes.taken made.takes.holds made.names.change made.names.used renamed_held;
+        holds = placed_made processes (λ k is. subst (λ (d : ProcessTable). IsTrue (is_open d k)) at.same_processes is)
+            (subst (λ (u : Node). length (names_of_body u.body) < max_names p.version) (the_node_is s.tree f.dir_ino directory name_is_new.stands) (has_few p map s.tree f.dir_ino q.cred (f.step - 1) allows));
       }
 
 -- ---- a call that makes something, by its row

@@ -9,7 +9,7 @@ use Rattle.sector_txn.specs.Sectors.{TxnState}
 use Rattle.fs_model.specs.declared.call.Call.{Call}
 use Rattle.fs_model.specs.declared.reply.Reply.{Reply}
 use Rattle.fs_model.specs.Processes.{ProcessTable}
-use Rattle.call_parts.specs.declared.caller.Caller.{Caller}
+use Rattle.call_parts.specs.declared.reaching.Caller.{Caller}
 use Rattle.call_parts.specs.Performing.{Performs, PerformsFor}
 
 pub performed : (p : Geometry) (time pid : ℕ) (call this : Call) (old new : TxnState) (before now : ProcessTable) (result : Result Reply Refusal) → call ≡ this

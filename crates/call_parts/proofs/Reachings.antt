@@ -1,5 +1,6 @@
 -- Exits of a call that reaches what it acts on by one path.
---     absent_walk, unchecked_walk, unwalked        its process, its arguments, its path or its walk refuse
+--     absent_walk, unchecked_walk, walk_denied        its process, its arguments, its path or its walk refuse
+--     walk_found        its walk finds something
 --     walk_reaches, unreached        nothing is there
 --     walk_refused, reach_refused        that is passed on
 --     reach_owns, unowned, owned_refused        it isn't the caller's
@@ -19,7 +20,7 @@ use Rattle.fs_cred.specs.declared.refusal.Refusal.TheVariants.{Failed}
 use Rattle.fs_layout.specs.declared.inode.Inode.{Inode}
 use Rattle.fs_layout.specs.declared.inode.Kind.TheVariants as kinds
 use Rattle.fs_layout.specs.declared.geometry.Geometry.{Geometry}
-use Rattle.fs_layout.specs.Bytes.{SectorMap}
+use Rattle.fs_layout.specs.Bytes.{SectorMap, IsBytes}
 use Rattle.fs_layout.specs.Maps.{get, with_entry}
 use Rattle.sector_txn.specs.Sectors.{TxnState, SameStore, IsUnchanged}
 use Rattle.sector_txn.proofs.TransactionRuns.{store_joined}
@@ -37,13 +38,13 @@ use Rattle.fs_model.specs.Demands.{Demand, or_else, first_of}
 use Rattle.fs_model.specs.Parts.{path_checks}
 use Rattle.fs_model.specs.Processes.{Process, ProcessTable, Descriptor, is_open}
 use Rattle.fs_model.specs.Scenes.{Scene, Effect, answers, with_process, must_be_there, own_at_end}
-use Rattle.fs_model.specs.Stands.{HoldsAll, placed}
+use Rattle.fs_model.specs.Stands.{HoldsAll, placed, room_of}
 use Rattle.fs_model.specs.States.{State}
 use Rattle.fs_model.specs.Steps.{after_effect, early_refusal, firm_refusal, other_refusal}
-use Rattle.fs_model.specs.Trees.{Tree}
+use Rattle.fs_model.specs.Trees.{Room, Tree}
 use Rattle.fs_model.proofs.Unchanged.{same_process_stays, open_stays}
 use Rattle.path_walk.specs.Answers.{refused_or, FailsToRead, IsAnswered}
-use Rattle.path_walk.specs.HeldTrees.{IsThere, HasAccess}
+use Rattle.path_walk.specs.HeldTrees.{IsThere, HasAccess, HoldsTree}
 use Rattle.path_walk.specs.Walked.{walk_of}
 use Rattle.path_walk.proofs.HeldNodes.{number_below}
 use Rattle.path_walk.proofs.Kept.{kept, kept_back, sound_kept, same_map, interrupts_later}
@@ -56,7 +57,7 @@ use Rattle.call_parts.specs.Telling.{Checked, checked}
 use Rattle.call_parts.specs.Reaching.{WalksPath, RefusesWalk, RefusesReach, RefusesOwned, HasWalked, IsInodeFound, HasReached}
 use Rattle.call_parts.proofs.ByDescriptor.{still_open}
 use Rattle.call_parts.proofs.ByPath.{refused_performs}
-use Rattle.call_parts.proofs.Calling.{absent_refused, early_is, first_of-append, or_else-none, refused_err, met_ok, resolve_refused, found_firm, found_late, found_after, found_told, found_there, answered_refused, answered_later, first_asked, state_kept, state_tree, same_process, told_performs}
+use Rattle.call_parts.proofs.Calling.{absent_refused, early_is, first_of-append, or_else-none, refused_err, met_ok, resolve_refused, found_firm, found_late, found_after, found_told, found_there, answered_refused, answered_later, first_asked, state_kept, state_tree, same_process, cwd_there, resolved, told_performs}
 use Rattle.call_parts.specs.Times.{MovesTimes}
 use Rattle.call_parts.proofs.Changed.{IsChange, times_moved}
 use Rattle.call_parts.proofs.Followed.{IsAccessed, followed_access, access_held, body_found_held}
@@ -97,12 +98,36 @@ module _ (old new : DiskState) (s : State) (pid : ℕ) (q : Process) (there : ge
   }
 
   -- or the path, or its walk
-  pub unwalked : checks ≡ Ok tt → ((x : Refusal) → first_of (path_checks path) ≡ Some x → e ≡ x)
+  unwalked : checks ≡ Ok tt → ((x : Refusal) → first_of (path_checks path) ≡ Some x → e ≡ x)
       → (first_of (path_checks path) ≡ None → IsAnswered old new (walk_of s.room s.tree q.cred 1 form q.cwd path) (Err e)) → RefusesWalk old new s pid checks form path e
   unwalked fine path_is walk_is = record {
     each = λ call demands effect w.
         resolve_refused s pid q call form path w.arguments demands effect w.row (met_ok {A = Unit {0}} (first_of w.arguments) tt tt (sym w.are_checked ∙ fine)).0
         there old new e w.asks path_is walk_is;
+  }
+
+module _ {p : Geometry} (old new : TxnState) {processes : ProcessTable} {pid : ℕ} {q : Process} {checks : Checked} (there : get nat_cmp processes pid ≡ Some q) (fine : checks ≡ Ok tt)
+    (form : Form) (path : List ℕ) where
+  pub walk_denied : (e : Refusal) → ((x : Refusal) → first_of (path_checks path) ≡ Some x → e ≡ x)
+      → (first_of (path_checks path) ≡ None → (t : Tree) → HoldsTree p old.sectors t → IsThere t q.cwd → IsAnswered old.disk new.disk (walk_of (room_of p) t q.cred 1 form q.cwd path) (Err e))
+      → (s : State) → IsStateOf p old.sectors processes s → RefusesWalk old.disk new.disk s pid checks form path e
+  walk_denied e unfit each s at =
+      unwalked old.disk new.disk s pid q (same_process at pid q there) checks form path e fine unfit
+      (λ fit. subst (λ (r : Room). IsAnswered old.disk new.disk (walk_of r s.tree q.cred 1 form q.cwd path) (Err e)) (sym at.same_room) (each fit s.tree (state_tree at) (cwd_there at pid q there)))
+
+  pub walk_found : {f : Found} → MayPerform p old processes → IsBytes path → IsUnchanged old new → first_of (path_checks path) ≡ None
+      → ((t : Tree) → HoldsTree p old.sectors t → IsThere t q.cwd → IsAnswered old.disk new.disk (walk_of (room_of p) t q.cred 1 form q.cwd path) (Ok f))
+      → HasWalked p new processes pid checks form path q f
+  walk_found {f} ready bytes same fit each = record {
+    ready = ready_kept same ready;
+    there = there;
+    fine = fine;
+    bytes = bytes;
+    found = λ s at.
+        let before = kept_back (λ (m : SectorMap). IsStateOf p m processes s) same at in
+        resolved old.disk new.disk f (same_process before pid q there) fit
+        (subst (λ (r : Room). IsAnswered old.disk new.disk (walk_of r s.tree q.cred 1 form q.cwd path) (Ok f)) (sym before.same_room)
+        (each s.tree (state_tree before) (cwd_there before pid q there)));
   }
 
 -- nothing is there

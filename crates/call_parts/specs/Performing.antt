@@ -26,7 +26,7 @@ use Rattle.fs_model.specs.Stands.{HoldsAll, placed, room_of}
 use Rattle.fs_model.specs.Steps.{Choice, HasNewNumber, after, asks_in_call, firm_refusal, other_refusal}
 use Rattle.bit_alloc.specs.Inodes.{IsSound}
 use Rattle.bit_alloc.specs.Room.{HasSpare}
-use Rattle.call_parts.specs.declared.caller.Caller.{Caller}
+use Rattle.call_parts.specs.declared.reaching.Caller.{Caller}
 
 -- a state that runs: its tree is what the map holds, and its processes are those of the table
 pub record IsStateOf (p : Geometry) (map : SectorMap) (processes : ProcessTable) (s : State) : Type 0 where

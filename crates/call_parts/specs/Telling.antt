@@ -21,7 +21,7 @@ use Rattle.fs_model.specs.States.{State}
 use Rattle.fs_model.specs.Trees.{Tree}
 use Rattle.path_walk.specs.Answers.{refused_or, Interrupts, IsAnswered}
 use Rattle.path_walk.specs.HeldTrees.{HoldsTree, IsThere}
-use Rattle.call_parts.specs.declared.caller.Caller.{Caller}
+use Rattle.call_parts.specs.declared.reaching.Caller.{Caller}
 use Rattle.call_parts.specs.declared.reaching.WalkedBoth.{WalkedBoth}
 use Rattle.call_parts.specs.TwoPaths.{scene_with, FindsBoth}
 

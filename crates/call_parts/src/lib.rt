@@ -6,28 +6,17 @@
 //! made, named, counted or freed, and times that move.
 #![tactic(auto)]
 
-mod caller;
-mod checks;
-mod dropping;
-mod found;
-mod making;
-mod naming;
+mod asking;
+mod changing;
 mod reaching;
-mod space;
-mod touching;
 
-pub use caller::{Asker, CallResult, Caller};
-pub use checks::{
-    WRITE_AND_SEARCH, allowed_by, check_is_directory, check_mode, check_no_directory, check_slash,
-    check_sticky, permitted, refuse_if,
+pub use asking::{
+    WRITE_AND_SEARCH, allowed_by, ask_directory, ask_for_name, ask_for_sectors, ask_to_write,
+    check_is_directory, check_make, check_mode, check_no_directory, check_slash, check_sticky,
+    default_of, inherited, is_new, new_group, permitted, refuse_if,
 };
-pub use dropping::{drop_node, leave, set_names};
-pub use found::inode_found;
-pub use making::{ask_directory, check_make, default_of, inherited, new_group};
-pub use naming::{ask_for_name, is_new, name_inode, remove_name};
+pub use changing::{drop_node, leave, name_inode, remove_name, set_names, touch};
 pub use reaching::{
-    OpenFor, Reached, Walked, WalkedBoth, find_open, reach, reach_open, reach_owned, walk_both,
-    walk_path,
+    Asker, CallResult, Caller, OpenFor, Reached, Walked, WalkedBoth, find_open, inode_found, reach,
+    reach_open, reach_owned, walk_both, walk_path,
 };
-pub use space::{ask_for_sectors, ask_to_write};
-pub use touching::touch;

@@ -1,22 +1,154 @@
-//! How a call reaches what it acts on.
+//! Who makes a call, and how it reaches what it acts on.
 
-ghost use Rattle.std.specs.Prelude.{◌≡◌, Result, IfOk, IfErr};
+ghost use Rattle.std.specs.Prelude.{◌≡◌, ◌<◌, ℕ, None, Some, Ok, Err, IfOk, IfErr};
+ghost use Rattle.fs_layout.specs.Images.{inode_at};
 ghost use Rattle.sector_txn.specs.Sectors.{IsUnchanged};
+ghost use Rattle.bit_alloc.specs.Inodes.{IsSound};
+ghost use Rattle.fs_model.specs.Demands.{first_of};
+ghost use Rattle.fs_model.specs.Parts.{path_checks};
+ghost use Rattle.fs_model.specs.Scenes.{found_ino, must_be_there};
+ghost use Rattle.fs_model.specs.Trees.{Tree};
+ghost use Rattle.path_walk.specs.Answers.{refused_or, IsAnswered};
+ghost use Rattle.path_walk.specs.HeldTrees.{HoldsTree, IsThere};
+ghost use Rattle.path_walk.specs.SoundInodes.{HasSoundInodes};
+ghost use Rattle.fs_model.specs.Stands.{room_of};
+ghost use Rattle.path_walk.specs.Walked.{walk_of};
+ghost use Rattle.call_parts.specs.Telling.{TellsAnswer};
 ghost use Rattle.fs_model.specs.States.{State};
 ghost use Rattle.open_files.specs.Tables.{IsTable};
 ghost use Rattle.call_parts.specs.Performing.{IsStateOf, IsReadyFor};
 ghost use Rattle.call_parts.specs.Reaching.{RefusesWalk, RefusesReach, RefusesOwned, HasWalked, HasReached, HasOwned, RefusesBoth, HasWalkedBoth, IsNotOpen, RefusesOpen, IsOpenFor, HasOpened, opens_for};
+ghost use Rattle.fs_layout.specs.Bytes.{IsBytes};
+ghost use Rattle.call_parts.specs.TwoPaths.{both_checks, walks_of};
 
-use crate::caller::Caller;
-use crate::checks::allowed_by;
-use crate::found::{find, inode_found};
-use crate::naming::find_names;
+use crate::asking::allowed_by;
 use fs_cred::{Errno, Need, Refusal, may_own};
-use fs_layout::Inode;
-use fs_model::{Form, Found, Path};
+use fs_layout::{Geometry, Inode};
+use fs_model::{Form, Found, Path, Reply};
 use open_files::{Descriptor, Process, Procs};
-use path_walk::load_inode;
+use path_walk::{check_path, load_inode, resolve, walk};
 use sector_txn::Sectors;
+use std::alloc::Global;
+
+/// Who calls, where and when: a process among all of them, the image that it calls on, and the present, as times count it.
+#[derive(Clone, Copy)]
+pub struct Caller<'a> {
+    pub alloc: Global,
+    pub geometry: Geometry,
+    pub time: u64,
+    pub procs: &'a Procs,
+    pub pid: usize,
+}
+
+/// Who asks for a call, where and when: the process of this number, on this image, at the present.
+#[derive(Clone, Copy)]
+pub struct Asker {
+    pub alloc: Global,
+    pub geometry: Geometry,
+    pub time: u64,
+    pub pid: usize,
+}
+
+impl Asker {
+    /// The caller that it is among these processes.
+    pub fn caller(self, procs: &Procs) -> Caller<'_>
+        ensures { result ≡ record {
+          alloc = self.alloc;
+          geometry = self.geometry;
+          time = self.time;
+          procs = procs.entry;
+          pid = self.pid;
+        } }
+    {
+        Caller {
+            alloc: self.alloc,
+            geometry: self.geometry,
+            time: self.time,
+            procs,
+            pid: self.pid,
+        }
+    }
+}
+
+/// What a call answers.
+pub type CallResult = Result<Reply, Refusal>;
+
+// What a path leads to for a process.
+fn find<S: Sectors>(
+    s: &mut S,
+    caller: &Caller,
+    process: &Process,
+    path: &Path,
+    form: Form,
+) -> Result<Found, Refusal>
+    requires sound { IsSound caller.now.geometry (S.state s.old) }
+    requires inodes { HasSoundInodes caller.now.geometry (S.state s.old).sectors }
+    requires start { process.now.cwd < caller.now.geometry.inodes }
+    ensures checked { (refusal : Refusal) → first_of (path_checks path.now) ≡ Some refusal → result ≡ Err refusal }
+    ensures each { first_of (path_checks path.now) ≡ None
+        → (t : Tree) → HoldsTree caller.now.geometry (S.state s.old).sectors t → IsThere t process.now.cwd
+        → IsAnswered (S.state s.old).disk (S.state s.new).disk
+        (walk_of (room_of caller.now.geometry) t process.now.cred 1 form process.now.cwd path.now) result }
+    ensures valid { IfOk result (λ found. first_of (path_checks path.now) ≡ None) }
+    ensures same { IsUnchanged (S.state s.old) (S.state s.new) }
+{
+    let cred = process.cred();
+    let cwd = process.cwd();
+    resolve(caller.alloc, s, caller.geometry, cred, cwd, path, form)
+}
+
+/// The inode that was found, with its number. ENOENT: none was.
+pub fn inode_found<S: Sectors>(
+    s: &mut S,
+    geometry: Geometry,
+    found: &Found,
+) -> Result<(u32, Inode), Refusal>
+    requires sound { IsSound geometry (S.state s.old) }
+    requires below { (n : ℕ) → found.now.ino ≡ Some n → n < geometry.inodes }
+    ensures { TellsAnswer (refused_or (must_be_there found.now)
+        (Ok (found_ino found.now, inode_at geometry (S.state s.old).sectors (found_ino found.now)))) (S.state s.old) (S.state s.new) result }
+{
+    let Some(ino) = found.ino else {
+        return Err(Refusal::Failed(Errno::ENOENT));
+    };
+    let inode = load_inode(s, geometry, ino)?;
+    Ok((ino, inode))
+}
+
+// What both paths of a call lead to, each as a walk finds it from its directory. Both are checked before the first is walked.
+fn find_names<S: Sectors>(
+    alloc: Global,
+    s: &mut S,
+    geometry: Geometry,
+    process: &Process,
+    old: &Path,
+    new: &Path,
+) -> Result<(Found, Found), Refusal>
+    requires sound { IsSound geometry (S.state s.old) }
+    requires inodes { HasSoundInodes geometry (S.state s.old).sectors }
+    requires start { process.now.cwd < geometry.inodes }
+    requires second_start { process.now.second_cwd < geometry.inodes }
+    ensures checked { (refusal : Refusal) → first_of (both_checks old.now new.now) ≡ Some refusal → result ≡ Err refusal }
+    ensures each { first_of (both_checks old.now new.now) ≡ None
+        → (t : Tree) → HoldsTree geometry (S.state s.old).sectors t → IsThere t process.now.cwd → IsThere t process.now.second_cwd
+        → IsAnswered (S.state s.old).disk (S.state s.new).disk
+        (walks_of (room_of geometry) t process.now.cred process.now.cwd process.now.second_cwd old.now new.now) result }
+    ensures valid { IfOk result (λ found. first_of (both_checks old.now new.now) ≡ None) }
+    ensures old_bytes { IsBytes old.now }
+    ensures new_bytes { IsBytes new.now }
+    ensures same { IsUnchanged (S.state s.old) (S.state s.new) }
+{
+    let _old_bytes = old.bytes();
+    let _new_bytes = new.bytes();
+    check_path(old)?;
+    check_path(new)?;
+    let cred = process.cred();
+    let cwd = process.cwd();
+    let second_cwd = process.second_cwd();
+    let first = walk(alloc, s, geometry, cred, cwd, old, Form::Parent, 1)?;
+    let second = walk(alloc, s, geometry, cred, second_cwd, new, Form::Parent, 2)?;
+    Ok((first, second))
+}
 
 /// The process that calls, and what its path leads to.
 #[derive(Drop)]

@@ -1,7 +1,7 @@
 -- An ACL given to what was found.
 --     given_super        the superblock stays
 --     acl_rest, holder_refused, space_refused        it is refused
---     acl_changed        it is given
+--     acl_changed, acl_given        it is given
 use Rattle.std.specs.Prelude.{◌≡◌, ℕ, Bool, true, false, not, ◌&&◌, List, [], ◌∷◌, Option, None, Some, IsFalse, Ok, Err}
 use Rattle.std.proofs.Common.{refl, sym, ap, subst, inl, ◌∙◌}
 use Rattle.posix_acl.specs.AccessList.{AccessList, IsSomeAcl}
@@ -32,16 +32,17 @@ use Rattle.fs_model.proofs.StepsBodies.{acl_may_replace}
 use Rattle.path_walk.specs.Answers.{refused_or, IsAnswered}
 use Rattle.call_parts.specs.Paths.{scene_at, HasFound}
 use Rattle.call_parts.specs.Performing.{IsStateOf}
-use Rattle.call_parts.proofs.Calling.{state_tree, answered_later, first_asked, next_asked, both_met}
+use Rattle.call_parts.proofs.Calling.{state_tree, met_ok, answered_later, first_asked, next_asked, both_met}
 use Rattle.call_parts.proofs.HeldChanges.{default_held, set_acl_held}
 use Rattle.path_walk.proofs.HeldNodes.{held_kind, held_node}
 use Rattle.path_walk.proofs.Kept.{kept_back}
 use Rattle.call_parts.specs.Asked.{own_asked, holder_asked, acl_space_asked}
-use Rattle.call_parts.specs.Given.{ChangesOne, SavesAcl, SavesDefaultAcl}
+use Rattle.call_parts.specs.Given.{ChangesOne, SavesAcl, SavesDefaultAcl, SavesOf}
 use Rattle.call_parts.proofs.Changed.{IsChange, rewrites_found}
 use Rattle.call_parts.proofs.Followed.{directory_is, followed_access, node_is, plain}
 use Rattle.call_parts.proofs.Ownership.{own_met, others_asked, all_met}
 use Rattle.call_parts.specs.Reaching.{IsInodeFound}
+use Rattle.call_parts.specs.Telling.{checked}
 
 -- ---- what the inode holds then
 
@@ -132,19 +133,28 @@ module _ {p : Geometry} {map : SectorMap} {processes : ProcessTable} {s : State}
     space_refused x e old new h = rest_asked x e old new (next_asked (holder_asked which v.kind) space x e old new holder h)
 
     -- the list is given
-    pub acl_changed : (new : SectorMap) → first_of space ≡ None → first_of (set_acl_arguments which acl) ≡ None
-        → (which ≡ Access → (a : AccessList) → acl ≡ Some a → SavesAcl p n v.mode a map new) → (which ≡ Default → SavesDefaultAcl p n acl map new)
+    acl_changed : (new : SectorMap) → first_of space ≡ None → first_of (set_acl_arguments which acl) ≡ None → SavesOf which p n v.mode acl map new
         → IsChange p new processes s q (set_acl_demands which acl (scene_at s q f)) (set_acl_effect which acl (scene_at s q f)) Done ((n, Changed) ∷ [])
-    acl_changed new enough given access default =
+    acl_changed new enough given saves =
         let a = followed_access n at has i.some in
         let kind = sym (held_kind (state_tree at) n a.node a.at) ∙ ap (λ (w : Inode). is_directory_kind w.kind) (sym i.inode) in
         let g = is_given p n (record { node = a.node; names = names_of s.tree n; parent = parent s.tree n }) which acl map new
         (held_node (state_tree at) n a.node a.at) (plain a.node.owner a.node.group a.node.body a.access a.is)
         (λ is. kind ∙ gets_default (is_default which) (is_directory_kind v.kind) holder is) given
-        (λ w o e. subst (λ (u : Inode). SavesAcl p n u.mode o map new) i.inode (access w o e)) default in
+        (λ w o e. subst (λ (u : Inode). SavesAcl p n u.mode o map new) i.inode (saves.access w o e)) saves.default in
         rewrites_found at new Changed n a.node (record a.node { body = with_set_acl which acl a.node.body }) a.at
         (acl_may_replace s.room s.tree n a.node ((at.is_state.tree).each n a.node a.at) which acl g.valid) g.one g.held
         q f (set_acl_demands which acl (scene_at s q f)) (λ (u : Node). record u { body = with_set_acl which acl u.body })
         (ap first_of demands_are
         ∙ all_met first_two (holder_asked which v.kind ∷ space) (own_met at has i met) (both_met (holder_asked which v.kind) space holder enough))
         i.number (node_is s q f n i.number a) refl
+
+-- so it is after what was asked
+pub acl_given : {p : Geometry} {mid last : TxnState} {processes : ProcessTable} {s : State} {pid : ℕ} {q : Process} {path : List ℕ} {f : Found} {n : ℕ} {v : Inode}
+    → IsStateOf p mid.sectors processes s → HasFound s pid q Follow path f → IsInodeFound p mid.sectors f n v → own_asked q.cred v.uid f.step ≡ None → (which : AclType) (acl : Option AccessList)
+    → checked (first_of (set_acl_arguments which acl)) ≡ Ok tt → checked (holder_asked which v.kind) ≡ Ok tt → IsUnchanged mid last
+    → checked (first_of (acl_space_asked which acl (free_sectors p mid.sectors))) ≡ Ok tt → {new : SectorMap} → SavesOf which p n v.mode acl last.sectors new
+    → IsChange p new processes s q (set_acl_demands which acl (scene_at s q f)) (set_acl_effect which acl (scene_at s q f)) Done ((n, Changed) ∷ [])
+acl_given {p} {mid} {n = n} {v = v} at has i met which acl given holder same enough {new} saves =
+    acl_changed at has i met which acl (met_ok (holder_asked which v.kind) tt tt holder).0 new (met_ok (first_of (acl_space_asked which acl (free_sectors p mid.sectors))) tt tt enough).0
+    (met_ok (first_of (set_acl_arguments which acl)) tt tt given).0 (kept_back (λ (m : SectorMap). SavesOf which p n v.mode acl m new) same saves)

@@ -45,7 +45,7 @@ use Rattle.call_parts.specs.Performing.{IsStateOf}
 use Rattle.call_parts.proofs.Calling.{state_tree, found_there, met_ok, or_else-none, first_asked}
 use Rattle.path_walk.proofs.HeldNodes.{stands, held_node, held_kind, held_access}
 use Rattle.path_walk.proofs.Kept.{is_err}
-use Rattle.call_parts.specs.declared.caller.Caller.{Caller}
+use Rattle.call_parts.specs.declared.reaching.Caller.{Caller}
 use Rattle.call_parts.specs.ByteChanges.{ChangesBytes}
 use Rattle.file_calls.specs.declared.opening.Opening.{Opening}
 use Rattle.file_calls.specs.Openings.{open_kind_asked, found_asked, FindsIn, IsRefusedOpen, Opens}

@@ -5,7 +5,7 @@
 --     finds_kept, asked_later        reads leave what was found, and what was asked
 --     made_prepares, file_prepares        it was made
 use Rattle.std.specs.Prelude.{◌≡◌, ℕ, ◌-◌, ◌/◌, ◌%◌, ◌<◌, ◌≤◌, ◌==◌, nat_lt, nat_le, if◌then◌else◌, Bool, not, ◌&&◌, ◌||◌, List, [], ◌∷◌, length, Option, None, unwrap_or, is_some, Ok, Err}
-use Rattle.std.proofs.Common.{sym, ap, subst, arith, ◌∙◌, inl}
+use Rattle.std.proofs.Common.{sym, ap, subst, ◌∙◌, inl}
 use Rattle.fs_cred.specs.declared.errno.Errno.TheVariants.{ENOENT, ENOSPC}
 use Rattle.fs_cred.specs.declared.refusal.Refusal.{Refusal}
 use Rattle.fs_cred.specs.Credentials.{Credential}
@@ -17,7 +17,6 @@ use Rattle.fs_layout.specs.declared.inode.Inode.{Inode}
 use Rattle.fs_layout.specs.declared.geometry.Geometry.{Geometry}
 use Rattle.fs_layout.specs.Bytes.{SectorMap}
 use Rattle.fs_layout.specs.Images.{inode_at, free_sectors}
-use Rattle.fs_layout.specs.Maps.{name_cmp, with_entry}
 use Rattle.fs_layout.specs.Version.{max_names}
 use Rattle.inode_table.specs.Acls.{HasDefaultAcl}
 use Rattle.fs_model.specs.declared.call.Flags.{Flags}
@@ -27,7 +26,7 @@ use Rattle.fs_model.specs.declared.touch.Touch.TheVariants.{Modified, Born}
 use Rattle.fs_model.specs.TreeChanges.{Change, Make, Rewrite, Same, changed, touches_of, swept}
 use Rattle.fs_model.specs.Demands.{Demand, refuse, first_of, permission_on, write_and_search}
 use Rattle.fs_model.specs.Limits.{least_free}
-use Rattle.fs_model.specs.Nodes.{no_stamps, Node, File, default_in, names_of_body, with_bytes, with_names}
+use Rattle.fs_model.specs.Nodes.{no_stamps, Node, File, default_in, names_of_body, with_bytes}
 use Rattle.fs_model.specs.OpenCall.{open_demands, open_found_demands, open_new_demands, open_change}
 use Rattle.fs_model.specs.Processes.{Process}
 use Rattle.fs_model.specs.Stands.{HoldsAll, placed}
@@ -35,8 +34,6 @@ use Rattle.fs_model.specs.States.{State}
 use Rattle.fs_model.specs.Steps.{HasNewNumber}
 use Rattle.fs_model.specs.StoredNodes.{HoldsNode}
 use Rattle.fs_model.specs.Trees.{Room, Tree, free_inodes, names_of, parent, IsDirectoryAt}
-use Rattle.fs_model.proofs.PlacedChanges.{make_held}
-use Rattle.fs_model.proofs.StepsAdding.{takes_new}
 use Rattle.fs_model.proofs.StepsFound.{IsNameAt}
 use Rattle.fs_model.proofs.StepsMaking.{IsNewborn, file_is_born}
 use Rattle.bit_alloc.proofs.Transactions.{unchanged_joined}
@@ -44,15 +41,15 @@ use Rattle.path_walk.specs.Answers.{refused_or, IsAnswered}
 use Rattle.path_walk.specs.HeldTrees.{HoldsTree}
 use Rattle.call_parts.specs.Paths.{scene_at}
 use Rattle.call_parts.proofs.Calling.{state_tree, met_ok, first_asked, next_asked, both_met}
-use Rattle.call_parts.proofs.HeldChanges.{names_held}
-use Rattle.path_walk.proofs.HeldNodes.{held_node, names_say, default_says}
+use Rattle.path_walk.proofs.HeldNodes.{held_node, default_says}
 use Rattle.path_walk.proofs.Kept.{kept, kept_back}
 use Rattle.call_parts.specs.Makings.{CanMake, make_asked}
 use Rattle.call_parts.specs.NewNodes.{MakesNode, file_made}
 use Rattle.file_calls.specs.Openings.{FindsIn, IsRefusedOpen}
 use Rattle.file_calls.proofs.OpenedTimes.{Prepares}
-use Rattle.call_parts.proofs.Makeable.{found_new, has_few, may_make}
-use Rattle.call_parts.proofs.NewFile.{nothing_stands, dir_still_held, set_group_says, default_is}
+use Rattle.call_parts.proofs.Makeable.{has_few, may_make}
+use Rattle.call_parts.proofs.NewNames.{name_is_new, fresh, placed_made}
+use Rattle.call_parts.proofs.NewFile.{set_group_says, default_is}
 use Rattle.call_parts.proofs.Checked.{refused_as}
 use Rattle.call_parts.proofs.Shown.{the_node_is}
 use Rattle.call_parts.specs.Telling.{checked}
@@ -71,8 +68,8 @@ asked_later p {old} {mid} t dir_ino step cred v same is =
     kept (λ (m : SectorMap). refused_or {A = Inode} (first_of (make_asked p m cred t dir_ino step)) (Ok (inode_at p m dir_ino)) ≡ Ok v) same is
 
 module _ {p : Geometry} {map : SectorMap} {flags : Flags} {q : Process} {f : Found} {s : State} (i : FindsIn p map flags q f s) (none : f.ino ≡ None) where
-  pub new_name : IsNameAt s.room s.tree f.dir_ino f.name None
-  new_name = found_new i.is_state i.found i.bytes none
+  abbrev pub new_name : IsNameAt s.room s.tree f.dir_ino f.name None
+  new_name = name_is_new i.is_state q f i.found i.bytes none
 
   abbrev pub directory_there : IsDirectoryAt s.tree f.dir_ino
   directory_there = record { node = new_name.node; is_there = new_name.stands; directory = new_name.directory }
@@ -162,13 +159,6 @@ module _ {p : Geometry} {map : SectorMap} {flags : Flags} {q : Process} {f : Fou
         else (if flags.trunc && flags.write then Rewrite Modified (unwrap_or o 0) (record (the_node s.tree (unwrap_or o 0)) { body = with_bytes [] (the_node s.tree (unwrap_or o 0)).body }) else Same)) none
         ∙ ap (λ (u : Node). Make f.dir_ino f.name n (born_file q.cred q.umask mode u)) (the_node_is s.tree f.dir_ino node new_name.stands)
 
-    fresh : HasNewNumber s (Make f.dir_ino f.name n file)
-    fresh =
-        let free = made.takes.free in
-        let below = free.1 in
-        let same = ap (λ (r : Room). r.inodes) i.is_state.same_room in
-        (free.0, omega (arith, below, same), nothing_stands (state_tree i.is_state) n free)
-
     module _ (v : Inode) (is_dir : v ≡ inode_at p map f.dir_ino) (group_is : gid ≡ (if v.mode / S_ISGID % 2 == 1 then v.gid else q.cred.gid))
         (acl_is : (d : Option AccessList) → HasDefaultAcl map v d → a ≡ born_acl d mode q.umask) where
       dir_holds : HoldsNode p.version map v (record { node = node; names = names_of s.tree f.dir_ino; parent = parent s.tree f.dir_ino })
@@ -194,37 +184,24 @@ module _ {p : Geometry} {map : SectorMap} {flags : Flags} {q : Process} {f : Fou
           (subst (λ (l : AccessList). HoldsNode p.version made.mid (inode_at p made.mid n)
           (record { node = record { owner = q.cred.uid; group = gid; body = File l []; stamps = no_stamps }; names = 1; parent = f.dir_ino })) acl_given made.takes.holds)
 
-      here : HoldsNode p.version new (inode_at p new f.dir_ino) (record {
-        node = record node { body = with_names (with_entry name_cmp (names_of_body node.body) f.name n) node.body };
-        names = names_of s.tree f.dir_ino;
-        parent = parent s.tree f.dir_ino;
-      })
-      here =
-          let before = inode_at p made.mid f.dir_ino in
-          let held = dir_still_held (state_tree i.is_state) directory_there n made.takes.free made.takes.change (record { node = file; names = 1; parent = f.dir_ino }) born made.takes.taken in
-          names_held made.mid new before (inode_at p new f.dir_ino) (record { node = node; names = names_of s.tree f.dir_ino; parent = parent s.tree f.dir_ino }) held
-          (with_entry name_cmp (names_of_body node.body) f.name n) new_name.directory made.names.kept made.names.acls
-          (made.names.named (names_of_body node.body) (names_say p.version made.mid before node.body new_name.directory held.body))
+      made_file : MakesNode p f.dir_ino f.name n file map new
+      made_file = record {
+        mid = made.mid;
+        takes = record { super = made.takes.super; free = made.takes.free; change = made.takes.change; taken = made.takes.taken; holds = born };
+        names = made.names;
+      }
 
       pub made_prepares : first_of (open_demands flags (scene_at s q f)) ≡ None → length (names_of_body node.body) < max_names p.version
           → Prepares p new flags mode q f s n ((f.dir_ino, Modified) ∷ (n, Born) ∷ [])
-      made_prepares met has_room =
-          let at = i.is_state in
-          record {
-            met = met;
-            number = ap (λ (o : Option ℕ). unwrap_or o n) none;
-            new_number = subst (HasNewNumber s) (sym change_is) fresh;
-            times = ap (touches_of s.tree) change_is;
-            holds = λ now still.
-                subst (λ (x : Change). HoldsAll p new (placed (swept (changed s.tree x) now))) (sym change_is)
-                (make_held s at.is_state at.up now still p map at.holds at.same_room made.mid new f.dir_ino node f.name n file (record {
-                  takes = takes_new new_name (subst (λ (r : Room). length (names_of_body node.body) < r.entries_limit) (sym at.same_room) has_room);
-                  positive = fresh.0;
-                  below = fresh.1;
-                  unused = fresh.2;
-                  newborn = newborn;
-                }) made.takes.change made.takes.taken born made.names.change made.names.used here);
-          }
+      made_prepares met has_room = record {
+        met = met;
+        number = ap (λ (o : Option ℕ). unwrap_or o n) none;
+        new_number = subst (HasNewNumber s) (sym change_is) (fresh i.is_state q f i.found i.bytes none file newborn new made_file);
+        times = ap (touches_of s.tree) change_is;
+        holds = λ now still.
+            subst (λ (x : Change). HoldsAll p new (placed (swept (changed s.tree x) now))) (sym change_is)
+            (placed_made i.is_state q f i.found i.bytes none file newborn new made_file now still has_room);
+      }
 
 -- The same, once it was made after reads: the directory was asked first, its default ACL was read then.
 pub file_prepares : {p : Geometry} {old asked mid : TxnState} {flags : Flags} {q : Process} {f : Found} (none : f.ino ≡ None) (may : checked (refuse ENOENT (not flags.create || f.slash)) ≡ Ok tt)

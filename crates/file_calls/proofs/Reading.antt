@@ -2,8 +2,9 @@
 --     read_part, written_back        the bytes that are read
 --     read_by        its row
 --     read_refused, read_told, read_ends        what it answers, and where it ends
+--     end_fits        the offset behind them fits
 use Rattle.std.specs.Prelude.{◌≡◌, ◌≢◌, ℕ, ◌+◌, ◌-◌, ◌^◌, ◌<◌, ◌≤◌, min, Bool, List, [], ◌∷◌, ◌++◌, length, take, drop, None, Some, Err}
-use Rattle.std.proofs.Common.{refl, sym, ap, subst, arith, ◌∙◌}
+use Rattle.std.proofs.Common.{refl, sym, ap, subst, arith, ◌∙◌, Fits, w64}
 use Rattle.std.proofs.lemmas.List.{length-take, length-drop, append-nil, take-append-le, take_all, take_min, drop_all}
 use Rattle.fs_cred.specs.declared.errno.Errno.TheVariants.{EISDIR}
 use Rattle.fs_cred.specs.declared.refusal.Refusal.{Refusal}
@@ -96,3 +97,6 @@ module _ {p : Geometry} {map : SectorMap} {processes : ProcessTable} {pid fd : �
         let limit : s.room.file_limit < 2 ^ 63 = at.is_state.room.file_limit in
         let part : length read ≡ length (take (min len run_limit) (drop d.offset bytes)) = ap length read_is_part in
         omega (arith, part, length-take (min len run_limit) (drop d.offset bytes), length-drop d.offset bytes, few, limit, x.offset)
+
+pub end_fits : (offset read len : ℕ) → offset + read < 2 ^ 64 → len ≡ read → Fits w64 (offset + len)
+end_fits offset read len few same = omega (arith, few, same)

@@ -4,9 +4,14 @@ use Rattle.std.proofs.Common.{refl, sym, ap, subst, arith, inl, inr, ◌∙◌}
 use Rattle.std.proofs.lemmas.Bool.{cases_lt, lt-ltb}
 use Rattle.sector_disk.specs.Disk.{DiskState}
 use Rattle.fs_cred.specs.declared.errno.Errno.TheVariants.{EISDIR, EFBIG}
+use Rattle.fs_cred.specs.Credentials.{Credential}
+use Rattle.fs_cred.specs.Verdicts.{verdict}
+use Rattle.fs_cred.specs.declared.node.Node.{Node as AccessNode}
 use Rattle.fs_cred.specs.declared.node.NodeKind.{NodeKind}
 use Rattle.fs_cred.specs.declared.node.NodeKind.TheVariants as nodes
+use Rattle.fs_cred.specs.declared.refusal.Need.TheVariants.{Perm}
 use Rattle.fs_cred.specs.declared.refusal.Refusal.{Refusal}
+use Rattle.fs_cred.specs.declared.rule.Rule.{Rule}
 use Rattle.fs_layout.specs.declared.inode.Inode.{Inode}
 use Rattle.fs_layout.specs.declared.inode.Kind.{Kind}
 use Rattle.fs_layout.specs.declared.inode.Kind.TheVariants as kinds
@@ -14,12 +19,14 @@ use Rattle.fs_layout.specs.declared.geometry.Geometry.{Geometry}
 use Rattle.fs_layout.specs.Bytes.{SectorMap, resized}
 use Rattle.fs_layout.specs.Images.{inode_at}
 use Rattle.fs_layout.specs.Version.{max_file_size}
+use Rattle.sector_txn.specs.Sectors.{TxnState, IsUnchanged}
+use Rattle.bit_alloc.proofs.Transactions.{unchanged_nothing}
 use Rattle.fs_model.specs.declared.reply.Reply.TheVariants.{Done}
 use Rattle.fs_model.specs.declared.touch.Touch.TheVariants.{Modified}
 use Rattle.fs_model.specs.declared.walk.Form.TheVariants.{Follow}
 use Rattle.fs_model.specs.declared.walk.Found.{Found}
 use Rattle.fs_model.specs.AttributeCalls.{truncate_demands, truncate_effect}
-use Rattle.fs_model.specs.Demands.{Demand, refuse, first_of, perms}
+use Rattle.fs_model.specs.Demands.{Demand, refuse, first_of, decided, perms}
 use Rattle.fs_model.specs.DescriptorCalls.{resized_node}
 use Rattle.fs_model.specs.Nodes.{is_directory, bytes_in}
 use Rattle.fs_model.specs.Processes.{Process, ProcessTable}
@@ -29,15 +36,18 @@ use Rattle.fs_model.specs.States.{State}
 use Rattle.fs_model.specs.Trees.{Room, names_of, parent}
 use Rattle.fs_model.proofs.StepsBodies.{bytes_may_replace, length-resized, IsBytes-resized, bytes_are_bytes}
 use Rattle.path_walk.specs.Answers.{refused_or, IsAnswered}
-use Rattle.path_walk.specs.HeldTrees.{stored_kind}
+use Rattle.path_walk.specs.HeldTrees.{stored_kind, HasAccess}
+use Rattle.path_walk.proofs.Kept.{kept}
 use Rattle.call_parts.specs.Paths.{scene_at, HasFound}
 use Rattle.call_parts.specs.Performing.{IsStateOf}
-use Rattle.call_parts.proofs.Calling.{state_tree, next_asked, first_asked, both_met, or_else-none}
+use Rattle.call_parts.specs.Reaching.{IsInodeFound}
+use Rattle.call_parts.specs.Telling.{checked}
+use Rattle.call_parts.proofs.Calling.{state_tree, state_kept, met_ok, next_asked, first_asked, both_met, or_else-none}
 use Rattle.call_parts.proofs.HeldChanges.{bytes_held}
 use Rattle.path_walk.proofs.HeldNodes.{held_node, bytes_say}
 use Rattle.call_parts.specs.ByteChanges.{ChangesBytes}
 use Rattle.call_parts.proofs.Changed.{IsChange, rewrites_found}
-use Rattle.call_parts.proofs.Followed.{directory_is, followed_access, node_is}
+use Rattle.call_parts.proofs.Followed.{directory_is, followed_access, node_is, access_held, permission_granted}
 
 -- on what access is decided is a file, where it is no directory
 pub file_kind : (k : NodeKind) (v : Kind) → v ≡ stored_kind k → refuse EISDIR (is_directory_kind v) ≡ None → v ≡ kinds.File
@@ -124,7 +134,7 @@ module _ {p : Geometry} {old : SectorMap} {processes : ProcessTable} {s : State}
     (at : IsStateOf p old processes s) (has : HasFound s pid q Follow path f) (some : f.ino ≡ Some n) (number_is : found_ino f ≡ n) (inode : v ≡ inode_at p old n)
     (size : ℕ) where
   -- the file has that size
-  pub size_changed : (new : SectorMap) → must_be_there f ≡ None → refuse EISDIR (is_directory_kind v.kind) ≡ None
+  size_changed : (new : SectorMap) → must_be_there f ≡ None → refuse EISDIR (is_directory_kind v.kind) ≡ None
       → permission_at_end (scene_at s q f) f 1 (perms false true false) ≡ None → refuse EFBIG (nat_lt (max_file_size p.version) size) ≡ None
       → size ≤ max_file_size p.version → v.kind ≡ kinds.File → ChangesBytes p n (λ held. resized held size) old new
       → IsChange p new processes s q (truncate_demands size (scene_at s q f)) (truncate_effect size (scene_at s q f)) Done ((n, Modified) ∷ [])
@@ -144,3 +154,19 @@ module _ {p : Geometry} {old : SectorMap} {processes : ProcessTable} {s : State}
       (c.held (bytes_in a.node.body) (bytes_say p.version old (inode_at p old n) a.node.body is_file held.body)))
       q f (truncate_demands size (scene_at s q f)) (resized_node size) (all_granted at has some number_is inode size there file granted fits) number_is
       (node_is s q f n number_is a) refl
+
+-- so it has after what was asked
+pub resized_found : {p : Geometry} {mid last : TxnState} {processes : ProcessTable} {s : State} {pid : ℕ} {q : Process} {path : List ℕ} {f : Found} {n : ℕ} {v : Inode}
+    → IsStateOf p mid.sectors processes s → HasFound s pid q Follow path f → IsInodeFound p mid.sectors f n v → checked (refuse EISDIR (is_directory_kind v.kind)) ≡ Ok tt
+    → (cred : Credential) → cred ≡ q.cred → {rule : Rule}
+    → ((node : AccessNode) → HasAccess mid.sectors v node
+    → refused_or {A = Rule} (decided 1 f.step (Perm (perms false true false)) (verdict cred node (perms false true false))) (Ok (verdict cred node (perms false true false)).rule) ≡ Ok rule)
+    → IsUnchanged mid last → (size : ℕ) → checked (refuse EFBIG (nat_lt (max_file_size p.version) size)) ≡ Ok tt → {new : SectorMap} → ChangesBytes p n (λ held. resized held size) last.sectors new
+    → IsChange p new processes s q (truncate_demands size (scene_at s q f)) (truncate_effect size (scene_at s q f)) Done ((n, Modified) ∷ [])
+resized_found {p} {mid} {n = n} {v = v} at has i no_directory cred who {rule} granted same size fits {new} change =
+    let held = access_held {mid = mid} {new = mid} at has i unchanged_nothing in
+    let file = (met_ok (refuse EISDIR (is_directory_kind v.kind)) tt tt no_directory).0 in
+    let few = (met_ok (refuse EFBIG (nat_lt (max_file_size p.version) size)) tt tt fits).0 in
+    let may = permission_granted {mid = mid} {new = mid} at has i unchanged_nothing cred who (perms false true false) rule (granted _ held) in
+    size_changed (state_kept same at) has i.some i.number (kept (λ m. v ≡ inode_at p m n) same i.inode) size new i.met file may.0 few
+    (few_enough (max_file_size p.version) size few) (file_kind _ v.kind held.kind file) change

@@ -33,7 +33,7 @@ use Rattle.sector_txn.specs.Sectors.{TxnState, SameStore}
 use Rattle.bit_alloc.specs.Inodes.{IsSound}
 use Rattle.bit_alloc.specs.Room.{HasSpare}
 use Rattle.path_walk.specs.Answers.{refused_or, IsAnswered}
-use Rattle.call_parts.specs.declared.caller.Caller.{Caller}
+use Rattle.call_parts.specs.declared.reaching.Caller.{Caller}
 use Rattle.call_parts.specs.Paths.{scene_at, HasFound}
 use Rattle.call_parts.specs.Performing.{IsStateOf}
 use Rattle.file_calls.specs.declared.opening.Opening.{Opening}

@@ -9,7 +9,6 @@
 
 mod acls;
 mod attributes;
-mod exiting;
 mod listing;
 mod making;
 mod opening;
@@ -17,19 +16,14 @@ mod performing;
 mod process;
 mod rights;
 mod show;
-mod sizes;
 mod transfer;
-mod writes;
 
 pub use acls::{get_acl, set_acl};
 pub use attributes::{chmod, chown};
-pub use exiting::exit;
 pub use listing::readdir;
 pub use opening::open;
 pub use performing::perform;
-pub use process::{close, umask};
+pub use process::{close, exit, umask};
 pub use rights::access;
 pub use show::{fstat, lstat, stat};
-pub use sizes::{ftruncate, truncate};
-pub use transfer::{MAX_RUN, lseek, read};
-pub use writes::write;
+pub use transfer::{MAX_RUN, ftruncate, lseek, read, truncate, write};

@@ -14,7 +14,7 @@ ghost use Rattle.call_parts.specs.Telling.{checked, ShowsTree, TellsTree};
 ghost use Rattle.file_calls.specs.Openings.{open_asked, open_kind_asked, found_asked, MayOpen, Opens};
 
 use crate::making::open_new;
-use crate::sizes::give_size;
+use crate::transfer::give_size;
 use call_parts::{Asker, CallResult, Caller, permitted, touch};
 use fs_cred::{Cred, Errno, Refusal};
 use fs_layout::{Inode, Kind};

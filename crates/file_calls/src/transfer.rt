@@ -1,21 +1,33 @@
-//! Bytes through a descriptor: POSIX.1-2017, read() and lseek().
+//! The bytes of a file: POSIX.1-2017, read(), lseek(), write(), truncate() and ftruncate().
 
-ghost use Rattle.std.specs.Prelude.{◌≡◌, min, take, drop, pos, ◌+ℤ◌};
+ghost use Rattle.std.specs.Prelude.{◌≡◌, min, take, drop, pos, ◌+ℤ◌, ◌+◌, ◌-◌, ◌<◌, ◌≤◌, length, if◌then◌else◌, nat_lt};
 ghost use Rattle.block_map.specs.Blocks.{IsWithin};
-ghost use Rattle.fs_layout.specs.Images.{Holds};
-ghost use Rattle.fs_model.specs.declared.call.Call.TheVariants.{Read, Lseek};
+ghost use Rattle.fs_layout.specs.Images.{Holds, inode_at, free_sectors};
+ghost use Rattle.fs_model.specs.declared.call.Call.TheVariants.{Read, Lseek, Write, Truncate, Ftruncate};
 ghost use Rattle.fs_model.specs.DescriptorCalls.{seekable};
-ghost use Rattle.fs_model.specs.Limits.{run_limit};
+ghost use Rattle.fs_model.specs.Limits.{run_limit, free_for, write_limit};
 ghost use Rattle.sector_txn.specs.Sectors.{IsUnchanged};
-ghost use Rattle.call_parts.specs.Performing.{MayPerform, Performs};
-ghost use Rattle.call_parts.specs.Telling.{ReadsInode};
+ghost use Rattle.call_parts.specs.Performing.{MayPerform, Performs, IsReadyFor, PerformsFor};
+ghost use Rattle.call_parts.specs.Telling.{ReadsInode, checked};
+ghost use Rattle.fs_layout.specs.declared.inode.Kind.TheVariants.{File};
+ghost use Rattle.fs_layout.specs.Bytes.{overwritten, resized};
+ghost use Rattle.fs_layout.specs.Version.{max_file_size};
+ghost use Rattle.call_parts.specs.Altering.{MayAlter, AltersDisk};
+ghost use Rattle.call_parts.specs.ByteChanges.{ChangesBytes};
+ghost use Rattle.fs_cred.specs.declared.errno.Errno.TheVariants.{EFBIG};
+ghost use Rattle.fs_model.specs.Demands.{refuse};
 
-use block_map::read_at;
-use call_parts::{Asker, CallResult, OpenFor, check_no_directory, reach_open};
+use block_map::{MAX_WRITE, read_at, set_size, write_at};
+use call_parts::{
+    Asker, CallResult, Caller, OpenFor, ask_to_write, check_no_directory, find_open, permitted,
+    reach, reach_open, refuse_if, touch,
+};
 use fs_cred::{Errno, Refusal};
-use fs_layout::Inode;
-use fs_model::{Bytes, Reply, Whence};
-use open_files::Procs;
+use fs_layout::{Geometry, Inode, Kind};
+use fs_model::{Bytes, Form, Path, Reply, Touch, Whence};
+use open_files::{Descriptor, Procs};
+use path_walk::load_inode;
+use posix_acl::Perms;
 use sector_txn::Sectors;
 use std::alloc::Global;
 
@@ -127,4 +139,155 @@ pub fn lseek<S: Sectors>(
     };
     procs.seek(asker.pid, fd, offset);
     Ok(Reply::At(offset))
+}
+
+// How many of so many bytes are written at an offset within the limit of a file.
+fn write_count(geometry: Geometry, len: usize, offset: u64) -> usize
+    requires { offset ≤ max_file_size geometry.version }
+    ensures { result ≡ min len (min write_limit (max_file_size geometry.version - offset)) }
+{
+    let left = (geometry.max_file_size() - offset) as usize;
+    len.min(MAX_WRITE.min(left))
+}
+
+// Writes bytes that fit into what inode `ino`, a file, holds. EIO: the disk has failed.
+fn write_bytes<S: Sectors>(
+    s: &mut S,
+    geometry: Geometry,
+    ino: u32,
+    inode: Inode,
+    offset: u64,
+    bytes: &[u8],
+) -> Result<(), Refusal>
+    requires ready { MayAlter geometry 47 (S.state s.old) }
+    requires below { ino < geometry.inodes }
+    requires inode { inode ≡ inode_at geometry (S.state s.old).sectors ino }
+    requires file { inode.kind ≡ File }
+    requires few { length bytes.now ≤ write_limit }
+    requires fits { offset + length bytes.now ≤ max_file_size geometry.version }
+    requires space { free_for (length bytes.now) ≤ free_sectors geometry (S.state s.old).sectors }
+    ensures { AltersDisk geometry 40 (λ done. ChangesBytes geometry ino (λ held. overwritten held offset bytes.now))
+        (S.state s.old) (S.state s.new) result }
+{
+    let mut inode = inode;
+    match write_at(s, geometry, ino, &mut inode, offset, bytes) {
+        Ok(()) => Ok(()),
+        Err(_) => Err(Refusal::Failed(Errno::EIO)),
+    }
+}
+
+// Where bytes are written: at the offset, or at the end with O_APPEND.
+fn write_offset(descriptor: Descriptor, inode: &Inode) -> u64
+    ensures { result ≡ if descriptor.append then inode.now.size else descriptor.offset }
+{
+    if descriptor.append {
+        inode.size
+    } else {
+        descriptor.offset
+    }
+}
+
+/// Writes bytes from the offset of a descriptor on, with O_APPEND from the end of its file on: at most 16,384 of them, and
+/// as many as fit. Zeros fill what lies between the end and these. The offset moves behind them, and the file is modified.
+///
+/// EBADF: it isn't open for writing. EFBIG: nothing fits. ENOSPC: fewer than 16 data sectors are free, or 40 for more than
+/// 4,096 bytes. To write nothing is never refused.
+pub fn write<S: Sectors>(
+    s: &mut S,
+    asker: Asker,
+    procs: &mut Procs,
+    fd: usize,
+    bytes: &Bytes,
+) -> CallResult
+    requires ready { MayPerform asker.geometry (S.state s.old) procs.old }
+    ensures { Performs asker.geometry asker.time asker.pid (Write fd bytes.now) (S.state s.old) (S.state s.new) procs.old procs.new result }
+{
+    let descriptor = find_open(procs, asker.pid, fd, OpenFor::Writing)?;
+    let bytes = bytes.bytes();
+    if bytes.is_empty() {
+        return Ok(Reply::Wrote(0));
+    }
+    let ino = descriptor.ino;
+    let inode = load_inode(s, asker.geometry, ino)?;
+    let offset = write_offset(descriptor, &inode);
+    let limit = asker.geometry.max_file_size();
+    if offset >= limit {
+        return Err(Refusal::Failed(Errno::EFBIG));
+    }
+    ask_to_write(s, asker.geometry, bytes.len())?;
+    let count = write_count(asker.geometry, bytes.len(), offset);
+    write_bytes(s, asker.geometry, ino, inode, offset, &bytes[..count])?;
+    touch(s, asker.geometry, asker.time, &[(ino, Touch::Modified)])?;
+    procs.seek(asker.pid, fd, offset + count as u64);
+    Ok(Reply::Wrote(count))
+}
+
+const WRITE: Perms = Perms {
+    read: false,
+    write: true,
+    execute: false,
+};
+
+// Refuses a size that no file on this disk has.
+fn check_size(geometry: Geometry, size: u64) -> Result<(), Refusal>
+    ensures { result ≡ checked (refuse EFBIG (nat_lt (max_file_size geometry.version) size)) }
+{
+    refuse_if(Errno::EFBIG, size > geometry.max_file_size())
+}
+
+/// Cuts inode `ino`, a file, to this size, or fills it up with zeros.
+pub(crate) fn give_size<S: Sectors>(
+    s: &mut S,
+    geometry: Geometry,
+    ino: u32,
+    inode: Inode,
+    size: u64,
+) -> Result<(), Refusal>
+    requires ready { MayAlter geometry 5 (S.state s.old) }
+    requires below { ino < geometry.inodes }
+    requires inode { inode ≡ inode_at geometry (S.state s.old).sectors ino }
+    requires file { inode.kind ≡ Kind.File }
+    requires fits { size ≤ max_file_size geometry.version }
+    ensures { AltersDisk geometry 5 (λ done. ChangesBytes geometry ino (λ held. resized held size)) (S.state s.old) (S.state s.new) result }
+{
+    let mut inode = inode;
+    match set_size(s, geometry, ino, &mut inode, size) {
+        Ok(()) => Ok(()),
+        Err(_) => Err(Refusal::Failed(Errno::EIO)),
+    }
+}
+
+/// Cuts the file that a path leads to, or fills it up with zeros.
+///
+/// ENOENT: the path leads to nothing. EISDIR: it leads to a directory. EFBIG: the size is more than a file may have on this disk.
+pub fn truncate<S: Sectors>(s: &mut S, caller: &Caller, path: &Path, size: u64) -> CallResult
+    requires ready { IsReadyFor caller.now (S.state s.old) }
+    ensures { PerformsFor caller.now (Truncate path.now size) (S.state s.old) (S.state s.new) result }
+{
+    let reached = reach(s, caller, Ok(()), path, Form::Follow)?;
+    let inode = reached.inode;
+    check_no_directory(inode.kind)?;
+    let cred = reached.process.cred();
+    let step = reached.found.step;
+    permitted(s, caller, cred, &inode, WRITE, 1, step)?;
+    check_size(caller.geometry, size)?;
+    let ino = reached.ino;
+    give_size(s, caller.geometry, ino, inode, size)?;
+    touch(s, caller.geometry, caller.time, &[(ino, Touch::Modified)])?;
+    Ok(Reply::Done)
+}
+
+/// Cuts the file of a descriptor, or fills it up with zeros.
+///
+/// EBADF: it isn't open for writing. EFBIG: the size is more than a file may have on this disk.
+pub fn ftruncate<S: Sectors>(s: &mut S, caller: &Caller, fd: usize, size: u64) -> CallResult
+    requires ready { IsReadyFor caller.now (S.state s.old) }
+    ensures { PerformsFor caller.now (Ftruncate fd size) (S.state s.old) (S.state s.new) result }
+{
+    let (descriptor, inode) = reach_open(s, caller, fd, OpenFor::Writing)?;
+    check_size(caller.geometry, size)?;
+    let ino = descriptor.ino;
+    give_size(s, caller.geometry, ino, inode, size)?;
+    touch(s, caller.geometry, caller.time, &[(ino, Touch::Modified)])?;
+    Ok(Reply::Done)
 }

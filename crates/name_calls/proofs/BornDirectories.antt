@@ -1,7 +1,8 @@
 -- A directory that is made.
 --     new_directory, directory_fits        its inode
 --     acls_few, directory_taken        an inode was taken for it
---     mkdir_by_path, is_new_name, directory_changes        mkdir
+--     mkdir_by_path, directory_name_asked, is_new_name, directory_changes        mkdir
+--     directory_may_touch, directory_was_made        and its end
 use Rattle.std.specs.Prelude.{◌≡◌, ℕ, ◌+◌, ◌-◌, ◌/◌, ◌%◌, ◌^◌, ◌<◌, ◌≤◌, ◌==◌, nat_eq, nat_le, ◌&&◌, cond, Bool, true, false, List, [], ◌∷◌, Option, None, IsTrue, Ok}
 use Rattle.std.proofs.Common.{refl, sym, ap, arith, ◌∙◌}
 use Rattle.std.proofs.lemmas.Bool.Decides.{nat_tests}
@@ -16,7 +17,7 @@ use Rattle.fs_layout.specs.Bytes.{SectorMap, IsBytes}
 use Rattle.fs_layout.specs.Inode.{FitsInode, free_inode}
 use Rattle.fs_layout.specs.Images.{Holds, bit, inode_at}
 use Rattle.fs_layout.proofs.UsedInodes.{made_fits}
-use Rattle.sector_txn.specs.Sectors.{TxnState}
+use Rattle.sector_txn.specs.Sectors.{TxnState, IsUnchanged}
 use Rattle.bit_alloc.specs.declared.bitmap.Bitmap.TheVariants.{Inodes}
 use Rattle.bit_alloc.specs.Bitmaps.{IsFreeNumber}
 use Rattle.bit_alloc.specs.Inodes.{KeepsFields, Touches}
@@ -27,26 +28,29 @@ use Rattle.fs_model.specs.declared.touch.Touch.TheVariants.{Modified, Born}
 use Rattle.fs_model.specs.declared.walk.Form.TheVariants.{Parent}
 use Rattle.fs_model.specs.declared.walk.Found.{Found}
 use Rattle.fs_model.specs.Births.{the_node, born_directory}
-use Rattle.fs_model.specs.Demands.{first_of}
+use Rattle.fs_model.specs.Demands.{Demand, first_of}
 use Rattle.fs_model.specs.NameCalls.{mkdir_row, mkdir_demands, mkdir_effect}
 use Rattle.fs_model.specs.Processes.{Process, ProcessTable}
 use Rattle.fs_model.specs.Rows.{row_of}
 use Rattle.fs_model.specs.Scenes.{must_be_new, check_of_mode}
 use Rattle.fs_model.specs.States.{State}
+use Rattle.fs_model.specs.Trees.{Tree}
 use Rattle.fs_model.proofs.StepsMaking.{directory_is_born}
 use Rattle.fs_model.proofs.StepsOfMaking.{is_new_if}
 use Rattle.call_parts.specs.Telling.{Checked, checked}
-use Rattle.call_parts.specs.Reaching.{WalksPath}
+use Rattle.call_parts.specs.Reaching.{WalksPath, HasWalked}
 use Rattle.path_walk.specs.Answers.{refused_or}
 use Rattle.call_parts.specs.Paths.{scene_at, HasFound}
-use Rattle.call_parts.specs.Performing.{IsStateOf}
+use Rattle.call_parts.specs.Performing.{IsStateOf, Performs}
+use Rattle.call_parts.specs.Times.{MayMoveTimes, MovesTimes}
 use Rattle.call_parts.proofs.Calling.{or_else-none, met_ok}
 use Rattle.call_parts.proofs.HeldChanges.{new_directory_held}
 use Rattle.call_parts.specs.Makings.{make_asked}
 use Rattle.call_parts.proofs.Changed.{IsChange}
 use Rattle.call_parts.proofs.NewFile.{takes_one}
 use Rattle.call_parts.specs.NewNodes.{MakesNode, TakesInode, directory_made}
-use Rattle.call_parts.proofs.NewNames.{caller_fits, parent_fits, space_met, node_made}
+use Rattle.call_parts.proofs.NewNames.{caller_fits, parent_fits, space_met, node_made, made_may_touch, made_done}
+use Rattle.name_calls.specs.Making.{Makes}
 
 -- named once, in directory dir
 abbrev pub new_directory : ℕ → ℕ → ℕ → ℕ → Inode
@@ -99,6 +103,10 @@ mkdir_by_path path mode checks are = record {
   asks = refl;
 }
 
+-- asked of the name
+abbrev pub directory_name_asked : Found → List Demand
+directory_name_asked f = must_be_new f ∷ []
+
 -- what was found is new
 pub is_new_name : (f : Found) → refused_or {A = Unit {0}} (must_be_new f) (Ok tt) ≡ Ok tt → (first_of (must_be_new f ∷ []) ≡ None) × (f.ino ≡ None)
 is_new_name f is =
@@ -116,3 +124,16 @@ module _ {p : Geometry} {map : SectorMap} {processes : ProcessTable} {s : State}
       node_made at q f has bytes x.1 (born_directory q.cred q.umask mode (the_node s.tree f.dir_ino))
       (directory_is_born s.room s.tree q.cred (caller_fits at has).cred (the_node s.tree f.dir_ino) fits.group q.umask mode fits.body)
       new made (mkdir_demands (scene_at s q f)) (space_met at q f (must_be_new f ∷ []) x.0 allows) allows
+
+-- the directory was made
+module _ {p : Geometry} {old mid last : TxnState} {processes : ProcessTable} {pid : ℕ} {checks : Checked} {path : List ℕ} {q : Process} {f : Found} {n : ℕ} (mode : ℕ)
+    (are : checks ≡ checked (check_of_mode mode)) (same : IsUnchanged old mid) (w : HasWalked p mid processes pid checks Parent path q f)
+    (is : refused_or {A = Unit {0}} (must_be_new f) (Ok tt) ≡ Ok tt)
+    (made : Makes p q.cred f (λ (t : Tree). born_directory q.cred q.umask mode (the_node t f.dir_ino)) mid last (Ok n)) where
+  pub directory_may_touch : MayMoveTimes p ((f.dir_ino, Modified) ∷ (n, Born) ∷ []) last
+  directory_may_touch = made_may_touch directory_name_asked (mkdir_by_path path mode checks are) same w (is_new_name f is).1 last n (λ (t : Tree). born_directory q.cred q.umask mode (the_node t f.dir_ino)) made.each
+      (λ s has at. directory_changes at q f has w.bytes is mode last.sectors n) made.store 7 (omega arith) made.taken
+
+  pub directory_was_made : {time : ℕ} {new : TxnState} → MovesTimes p time ((f.dir_ino, Modified) ∷ (n, Born) ∷ []) last new → Performs p time pid (Mkdir path mode) old new processes processes (Ok Done)
+  directory_was_made moved = made_done directory_name_asked (mkdir_by_path path mode checks are) same w (is_new_name f is).1 last n (λ (t : Tree). born_directory q.cred q.umask mode (the_node t f.dir_ino)) made.each
+      (λ s has at. directory_changes at q f has w.bytes is mode last.sectors n) made.store moved

@@ -3,6 +3,7 @@
 --     none_free        no sector is free
 --     target_size        its target has a size that a link may have
 --     symlink_by_path, is_target, is_link_name, link_changes        symlink
+--     link_may_touch, link_was_made        and its end
 use Rattle.std.specs.Prelude.{◌≡◌, ◌⊎◌, ℕ, ◌-◌, ◌<◌, ◌/◌, ◌%◌, ◌==◌, nat_lt, if◌then◌else◌, List, [], ◌∷◌, length, None, IsTrue, Ok}
 use Rattle.std.proofs.Common.{refl, sym, subst, arith, inl, inr, ◌∙◌}
 use Rattle.std.specs.List.{list_any}
@@ -14,7 +15,7 @@ use Rattle.fs_layout.specs.declared.inode.Kind.TheVariants.{Link}
 use Rattle.fs_layout.specs.declared.geometry.Geometry.{Geometry}
 use Rattle.fs_layout.specs.Bytes.{SectorMap, IsBytes}
 use Rattle.fs_layout.specs.Images.{Holds, HasNoHole, bit, inode_at}
-use Rattle.sector_txn.specs.Sectors.{TxnState}
+use Rattle.sector_txn.specs.Sectors.{TxnState, IsUnchanged}
 use Rattle.bit_alloc.specs.declared.bitmap.Bitmap.TheVariants.{Inodes}
 use Rattle.bit_alloc.specs.Bitmaps.{IsFreeNumber}
 use Rattle.bit_alloc.specs.Inodes.{Touches}
@@ -34,21 +35,23 @@ use Rattle.fs_model.specs.Processes.{Process, ProcessTable}
 use Rattle.fs_model.specs.Rows.{row_of}
 use Rattle.fs_model.specs.Scenes.{must_be_new}
 use Rattle.fs_model.specs.States.{State}
-use Rattle.fs_model.specs.Trees.{IsTarget}
+use Rattle.fs_model.specs.Trees.{Tree, IsTarget}
 use Rattle.fs_model.proofs.StepsDemands.{first_met, then_met}
 use Rattle.fs_model.proofs.StepsMaking.{link_is_born}
 use Rattle.fs_model.proofs.StepsOfMaking.{is_new_if, target_is}
 use Rattle.call_parts.specs.Telling.{Checked, checked}
-use Rattle.call_parts.specs.Reaching.{WalksPath}
+use Rattle.call_parts.specs.Reaching.{WalksPath, HasWalked}
 use Rattle.path_walk.specs.Answers.{refused_or}
 use Rattle.call_parts.specs.Paths.{scene_at, HasFound}
-use Rattle.call_parts.specs.Performing.{IsStateOf}
+use Rattle.call_parts.specs.Performing.{IsStateOf, Performs}
+use Rattle.call_parts.specs.Times.{MayMoveTimes, MovesTimes}
 use Rattle.call_parts.proofs.Calling.{met_ok}
 use Rattle.call_parts.proofs.HeldChanges.{new_link_held}
 use Rattle.call_parts.specs.Makings.{make_asked}
 use Rattle.call_parts.proofs.Changed.{IsChange}
 use Rattle.call_parts.specs.NewNodes.{MakesNode, TakesInode, link_made, link_name_asked}
-use Rattle.call_parts.proofs.NewNames.{caller_fits, parent_fits, space_met, node_made}
+use Rattle.call_parts.proofs.NewNames.{caller_fits, parent_fits, space_met, node_made, made_may_touch, made_done}
+use Rattle.name_calls.specs.Making.{Makes}
 
 pub target_size : (target : List ℕ) → IsTarget target → AllowsSize Link (length target)
 target_size target is = (is.some, is.short)
@@ -114,3 +117,16 @@ module _ {p : Geometry} {map : SectorMap} {processes : ProcessTable} {s : State}
       node_made at q f has bytes x.1 (born_link q.cred target (the_node s.tree f.dir_ino))
       (link_is_born s.room s.tree q.cred (caller_fits at has).cred (the_node s.tree f.dir_ino) fits.group target valid)
       new made (symlink_demands (scene_at s q f)) (space_met at q f (link_name_asked f) x.0 allows) allows
+
+-- the link was made
+module _ {p : Geometry} {old mid last : TxnState} {processes : ProcessTable} {pid : ℕ} {checks : Checked} {path : List ℕ} {q : Process} {f : Found} {n : ℕ} (target : List ℕ)
+    (bytes : IsBytes target) (are : checks ≡ checked (first_of (symlink_arguments target))) (same : IsUnchanged old mid) (w : HasWalked p mid processes pid checks Parent path q f)
+    (is : refused_or {A = Unit {0}} (first_of (link_name_asked f)) (Ok tt) ≡ Ok tt)
+    (made : Makes p q.cred f (λ (t : Tree). born_link q.cred target (the_node t f.dir_ino)) mid last (Ok n)) where
+  pub link_may_touch : MayMoveTimes p ((f.dir_ino, Modified) ∷ (n, Born) ∷ []) last
+  link_may_touch = made_may_touch link_name_asked (symlink_by_path target path checks are) same w (is_link_name f is).1 last n (λ (t : Tree). born_link q.cred target (the_node t f.dir_ino)) made.each
+      (λ s has at. link_changes at q f has w.bytes is target (is_target target checks are w.fine bytes) last.sectors n) made.store 7 (omega arith) made.taken
+
+  pub link_was_made : {time : ℕ} {new : TxnState} → MovesTimes p time ((f.dir_ino, Modified) ∷ (n, Born) ∷ []) last new → Performs p time pid (Symlink target path) old new processes processes (Ok Done)
+  link_was_made moved = made_done link_name_asked (symlink_by_path target path checks are) same w (is_link_name f is).1 last n (λ (t : Tree). born_link q.cred target (the_node t f.dir_ino)) made.each
+      (λ s has at. link_changes at q f has w.bytes is target (is_target target checks are w.fine bytes) last.sectors n) made.store moved

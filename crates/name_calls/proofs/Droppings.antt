@@ -1,12 +1,20 @@
--- What a node that loses a name leaves of the disk.
+-- A name that goes, and what a node that loses it leaves of the disk.
+--     removable        a call may remove the name
 --     lost_sound, lost_touches        it is sound, and one inode was touched
-use Rattle.std.specs.Prelude.{◌≡◌, ℕ, ◌-◌, Bool, true, false}
-use Rattle.std.proofs.Common.{refl}
+use Rattle.std.specs.Prelude.{◌≡◌, ℕ, ◌-◌, ◌<◌, Bool, true, false}
+use Rattle.std.proofs.Common.{refl, arith}
 use Rattle.fs_layout.specs.declared.geometry.Geometry.{Geometry}
 use Rattle.fs_layout.specs.Images.{inode_at}
 use Rattle.sector_txn.specs.Sectors.{TxnState}
 use Rattle.bit_alloc.specs.Inodes.{IsSound, Touches}
-use Rattle.name_calls.specs.Dropping.{LosesName, stays_with}
+use Rattle.fs_model.specs.declared.walk.Found.{Found}
+use Rattle.fs_model.specs.Processes.{ProcessTable}
+use Rattle.call_parts.specs.NewNodes.{HasName}
+use Rattle.call_parts.specs.Performing.{MayPerform}
+use Rattle.name_calls.specs.Dropping.{MayRemove, LosesName, stays_with}
+
+pub removable : {p : Geometry} {txn : TxnState} {processes : ProcessTable} (f : Found) → MayPerform p txn processes → f.dir_ino < p.inodes → HasName p txn.sectors f.dir_ino f.name → MayRemove p f txn
+removable f ready below named = let spare = ready.spare in record { ready = record { sound = ready.sound; spare = omega (arith, spare) }; below = below; named = named }
 
 module _ {p : Geometry} {n : ℕ} {opened : Bool} {old new : TxnState} (loses : LosesName p n opened old new) where
   abbrev stays : Bool

@@ -3,7 +3,7 @@
 --     IsLinkable, link_told        where all that is asked is met
 --     name_at        the directory in which the name is new
 --     link_may, few_names        the name may be given
---     target_below, dir_same, dir_room, link_holds        the count of names, the directory, and both
+--     target_below, linked_below, dir_same, dir_room, link_holds        the count of names, the directory, and both
 --     link_changed        the name was given
 use Rattle.std.specs.Prelude.{◌≡◌, ◌≢◌, ℕ, ◌+◌, ◌-◌, ◌<◌, ◌≤◌, nat_lt, nat_le, true, false, List, [], ◌∷◌, ◌++◌, length, None, Some, IsTrue, Ok}
 use Rattle.std.proofs.Common.{refl, sym, ap, subst, arith, ◌∙◌}
@@ -43,6 +43,7 @@ use Rattle.fs_model.proofs.StepsAdding.{GivesName}
 use Rattle.fs_model.proofs.StepsDemands.{first_met, then_met, unrefused}
 use Rattle.fs_model.proofs.StepsFound.{IsNameAt}
 use Rattle.path_walk.specs.Answers.{refused_or}
+use Rattle.call_parts.specs.Times.{AreBelow}
 use Rattle.call_parts.specs.Performing.{IsStateOf}
 use Rattle.call_parts.proofs.Calling.{state_tree, state_kept, first_of-append, met_ok}
 use Rattle.call_parts.proofs.HeldChanges.{names_held, counted_held}
@@ -183,8 +184,12 @@ module _ {p : Geometry} (old : TxnState) {processes : ProcessTable} {s : State} 
   pub target_below : n < p.inodes
   target_below = node_below s p at.is_state at.same_room n may.target may.there
 
-  pub dir_below : dir_ino < p.inodes
+  dir_below : dir_ino < p.inodes
   dir_below = node_below s p at.is_state at.same_room dir_ino directory may.directory.is_there
+
+  -- the numbers of both whose times move
+  pub linked_below : AreBelow p.inodes ((dir_ino, Modified) ∷ (n, Changed) ∷ [])
+  linked_below = (dir_below, (target_below, tt))
 
   apart : dir_ino ≢ n
   apart e =

@@ -7,6 +7,7 @@
 --     lead_below, lead_room, lead_named        what stands before a name leads elsewhere
 --     follow_super, moved_none        its parent, too; the whole where nothing was replaced
 --     replaced_number, replaced_same, replaced_used, replaced_named, replaced_holds        what was replaced; the whole
+--     may_remove_first        the first name may be removed
 use Rattle.std.specs.Prelude.{◌≡◌, ◌≢◌, ◌⊎◌, ℕ, ◌+◌, ◌-◌, ◌==◌, ◌<◌, ◌≤◌, ◌^◌, Bool, true, false, not, ◌||◌, List, length, Option, None, Some, is_some, IsTrue, IsFalse}
 use Rattle.std.proofs.Common.{refl, sym, ap, subst, arith, inl, inr, ◌∙◌}
 use Rattle.std.proofs.lemmas.Bool.{ne_eqb}
@@ -24,6 +25,7 @@ use Rattle.fs_layout.proofs.Saves.{inode_kept}
 use Rattle.sector_txn.specs.Sectors.{TxnState}
 use Rattle.bit_alloc.specs.declared.bitmap.Bitmap.TheVariants.{Inodes}
 use Rattle.bit_alloc.specs.Bitmaps.{IsNumber}
+use Rattle.fs_model.specs.declared.walk.Found.{Found}
 use Rattle.fs_model.specs.TreeChanges.{MoveName, changed, changed_at, swept, lives_nameless}
 use Rattle.fs_model.specs.Limits.{root}
 use Rattle.fs_model.specs.Nodes.{Node, is_directory, names_of_body}
@@ -40,17 +42,18 @@ use Rattle.fs_model.proofs.StepsMoving.{MovesName, Between, moves_loses}
 use Rattle.fs_model.proofs.StepsNaming.{renamed_node, renamed, are_names}
 use Rattle.fs_model.proofs.StepsParents.{names_or, directory_named}
 use Rattle.fs_model.proofs.StepsUp.{is_outside}
-use Rattle.call_parts.specs.Performing.{IsStateOf}
+use Rattle.call_parts.specs.Performing.{IsStateOf, MayPerform}
 use Rattle.call_parts.proofs.Calling.{state_tree}
 use Rattle.call_parts.proofs.HeldChanges.{names_held, moved_held}
 use Rattle.path_walk.proofs.HeldNodes.{Stands, stands, held_node, held_names, held_kind, names_say, number_below}
-use Rattle.name_calls.specs.Dropping.{LosesName}
+use Rattle.name_calls.specs.Dropping.{MayRemove, LosesName}
 use Rattle.call_parts.proofs.Removed.{attributes_fit}
 use Rattle.call_parts.specs.Given.{ChangesNames}
 use Rattle.call_parts.specs.Times.{AreBelow}
 use Rattle.name_calls.specs.Moving.{MayMove, MayLead, MovesEntry, within, across, ParentFollows, goes, stays, renamed_touches}
 use Rattle.call_parts.specs.NewNodes.{HasName, MayBeNamed}
 use Rattle.name_calls.specs.Renaming.{inode_there}
+use Rattle.name_calls.proofs.Droppings.{removable}
 use Rattle.name_calls.proofs.Takings.{field_named, left_counts, left_held, left_drops}
 
 -- ---- another parent
@@ -402,3 +405,8 @@ module _ {p : Geometry} (old : TxnState) {processes : ProcessTable} {s : State} 
             let drops = left_drops processes (replaced_held entry follows led) (one_name entry follows led) (other entry follows led) opened is loses gone in
             move_drop_held s at.is_state at.up processes still dir_ino directory name n to_dir_ino to_directory to_name o moves target.node target.at p at.same_room
             m led node (replaced entry follows led).at now.sectors new.sectors (followed entry follows) drops.touches.inode gone drops.clear drops.free
+
+-- the first name may be removed
+pub may_remove_first : {p : Geometry} {old : TxnState} {processes : ProcessTable} (f g : Found) {n : ℕ} (ready : MayPerform p old processes)
+    → MayMove p old.sectors ready.state f.dir_ino f.name n g.dir_ino g.name g.ino → MayRemove p f old
+may_remove_first {old = old} f g ready may = removable f ready (dir_below old ready.is_state may) (named_first old ready.is_state may)

@@ -1,5 +1,5 @@
 -- What rename asks of directories and of what it replaces, as the inodes say it.
---     IsGranted, both_grant        what both directories grant
+--     IsGranted, both_grant, granted        what both directories grant
 --     MeetsThree        the first three of five parts
 --     first_part, second_part, third_part, fourth_part, fifth_part, five_met        five parts
 --     moved_refuses, space_refuses, all_five        the last two
@@ -49,7 +49,7 @@ use Rattle.path_walk.proofs.Kept.{kept}
 use Rattle.call_parts.proofs.Followed.{accessed_is}
 use Rattle.call_parts.proofs.MakeAsked.{dir_access, dir_held, directory_met}
 use Rattle.call_parts.proofs.Ownership.{IsNode, node_of, all_met}
-use Rattle.call_parts.proofs.Refuses.{Refuses, refuses_first, refuses_next, refuses_some, refuses_others, demand_met}
+use Rattle.call_parts.proofs.Refuses.{Refuses, refuses_first, refuses_next, refuses_some, refuses_others, demand_met, tree_kept}
 use Rattle.call_parts.specs.Telling.{checked}
 use Rattle.call_parts.specs.Reaching.{IsInodeFound}
 use Rattle.call_parts.specs.Makings.{room_asked}
@@ -76,6 +76,18 @@ both_grant p {old} {mid} t q f g d to same told then_told =
     let one = met_ok {A = Inode} (permission_on q.cred t f.dir_ino write_and_search 1 (f.step - 1)) (inode_at p old.sectors f.dir_ino) d told in
     let two = directory_met p g.dir_ino (permission_on q.cred t g.dir_ino write_and_search 2 (g.step - 1)) same then_told in
     record { first = one.0; second = two.0; from_is = sym one.1; to_is = two.1 }
+
+-- so it is where both have answered, one after the other
+pub granted : {p : Geometry} {old mid : TxnState} {processes : ProcessTable} {f g : Found} {n : ℕ} {v : Inode} {there : Option (ℕ × Inode)} {s : State} (r : IsToRename p old.sectors processes f g n v there s) (q : Process)
+    {d to : Inode} → IsUnchanged old mid
+    → ((t : Tree) → HoldsTree p old.sectors t → IsDirectoryAt t f.dir_ino
+    → refused_or {A = Inode} (permission_on q.cred t f.dir_ino write_and_search 1 (f.step - 1)) (Ok (inode_at p old.sectors f.dir_ino)) ≡ Ok d)
+    → ((t : Tree) → HoldsTree p mid.sectors t → IsDirectoryAt t g.dir_ino
+    → refused_or {A = Inode} (permission_on q.cred t g.dir_ino write_and_search 2 (g.step - 1)) (Ok (inode_at p mid.sectors g.dir_ino)) ≡ Ok to)
+    → IsGranted p old.sectors s.tree q f g d to
+granted {p} {f = f} {g = g} {s = s} r q {d} {to} same first second =
+    let h = state_tree r.is_state in
+    both_grant p s.tree q f g d to same (first s.tree h r.first.directory) (second s.tree (tree_kept same h) r.second.directory)
 
 -- nothing is refused by the first three parts
 pub record MeetsThree (s : State) (q : Process) (f g : Found) : Type 0 where

@@ -4,6 +4,7 @@
 --     field_named, field_is        the count of names that an inode stores
 --     left_counts, left_held, left_drops        what is left of a node that loses a name
 --     taken_holds        the map holds the tree without the name
+--     may_remove        the name that was found may be removed
 use Rattle.std.specs.Prelude.{◌≡◌, ◌≢◌, ℕ, ◌-◌, ◌==◌, ◌<◌, ◌≤◌, Bool, true, false, not, ◌||◌, List, None, Some, IsTrue, IsFalse}
 use Rattle.std.proofs.Common.{refl, sym, ap, subst, arith, ◌∙◌}
 use Rattle.std.proofs.lemmas.Bool.{ne_eqb}
@@ -21,6 +22,7 @@ use Rattle.fs_layout.proofs.Saves.{inode_kept}
 use Rattle.sector_txn.specs.Sectors.{TxnState}
 use Rattle.bit_alloc.specs.declared.bitmap.Bitmap.TheVariants.{Inodes}
 use Rattle.bit_alloc.specs.Bitmaps.{IsNumber}
+use Rattle.fs_model.specs.declared.walk.Found.{Found}
 use Rattle.fs_model.specs.TreeChanges.{TakeName, changed, swept, lives_nameless}
 use Rattle.fs_model.specs.Limits.{root}
 use Rattle.fs_model.specs.Nodes.{Node, Body, File, Dir, Link, is_directory, names_of_body}
@@ -35,14 +37,15 @@ use Rattle.fs_model.proofs.PlacedNodes.{placed_from, placing, placing_other, one
 use Rattle.fs_model.proofs.StepsNaming.{renamed_node, are_names}
 use Rattle.fs_model.proofs.StepsParents.{names_or, directory_named}
 use Rattle.fs_model.proofs.StepsTaking.{TakesName, takes_loses}
-use Rattle.call_parts.specs.Performing.{IsStateOf}
+use Rattle.call_parts.specs.Performing.{IsStateOf, MayPerform}
 use Rattle.call_parts.proofs.Calling.{state_tree}
 use Rattle.call_parts.proofs.HeldChanges.{names_held, counted_held}
 use Rattle.path_walk.proofs.HeldNodes.{held_node, held_names}
 use Rattle.call_parts.specs.Dropping.{Drops, Counts, RemovesName}
 use Rattle.call_parts.specs.NewNodes.{HasName}
-use Rattle.name_calls.specs.Dropping.{LosesName, stays_with}
+use Rattle.name_calls.specs.Dropping.{MayRemove, LosesName, stays_with}
 use Rattle.name_calls.specs.Removing.{MayGo}
+use Rattle.name_calls.proofs.Droppings.{removable}
 
 -- ---- whether it stays, as its inode says it
 
@@ -210,3 +213,7 @@ module _ {p : Geometry} (old : TxnState) {processes : ProcessTable} {s : State} 
               let drops = left_drops processes target_held one_name other opened is loses goes in
               drop_held s at.is_state at.up processes still p old.sectors at.holds at.same_room mid.sectors new.sectors dir_ino directory name n may.target takes may.there
               removes.touches.inode removes.names.used here drops.touches.inode goes drops.clear drops.free
+
+-- the name that was found may be removed
+pub may_remove : {p : Geometry} {old : TxnState} {processes : ProcessTable} (f : Found) {n : ℕ} (ready : MayPerform p old processes) → MayGo ready.state f.dir_ino f.name n → MayRemove p f old
+may_remove {old = old} f ready may = removable f ready (dir_below old ready.is_state may) (named_there old ready.is_state may)

@@ -1,7 +1,8 @@
--- What is left of a node that loses a name.
+-- A name that goes, and what is left of the node that loses it.
+--     MayRemove        a name that was found and may be removed
 --     MayLoseName        an inode that has a name
 --     stays_with, LosesName        it has a name less, or is gone
-use Rattle.std.specs.Prelude.{◌≡◌, ℕ, ◌-◌, ◌==◌, ◌≤◌, Bool, true, false, not, ◌&&◌, ◌||◌}
+use Rattle.std.specs.Prelude.{◌≡◌, ℕ, ◌-◌, ◌==◌, ◌<◌, ◌≤◌, Bool, true, false, not, ◌&&◌, ◌||◌}
 use Rattle.fs_layout.specs.declared.inode.Inode.{Inode}
 use Rattle.fs_layout.specs.declared.inode.Kind.{Kind}
 use Rattle.fs_layout.specs.declared.geometry.Geometry.{Geometry}
@@ -10,9 +11,18 @@ use Rattle.sector_txn.specs.Sectors.{TxnState}
 use Rattle.bit_alloc.specs.declared.bitmap.Bitmap.TheVariants.{Inodes}
 use Rattle.bit_alloc.specs.Bitmaps.{IsNumber}
 use Rattle.bit_alloc.specs.Room.{HasSpare}
+use Rattle.fs_model.specs.declared.walk.Found.{Found}
 use Rattle.fs_model.specs.Summaries.{is_file_kind}
+use Rattle.call_parts.specs.Altering.{MayAlter}
 use Rattle.call_parts.specs.Dropping.{Drops, Counts}
+use Rattle.call_parts.specs.NewNodes.{HasName}
 use Rattle.call_parts.specs.UsedInode.{IsUsedInode}
+
+-- the directory has the name that was found, and there is room for its change
+pub record MayRemove (p : Geometry) (f : Found) (txn : TxnState) : Type 0 where
+  pub ready : MayAlter p 5 txn
+  pub below : f.dir_ino < p.inodes
+  pub named : HasName p txn.sectors f.dir_ino f.name
 
 -- what has so many names left stays: a file also as long as it is open
 abbrev pub stays_with : Kind → ℕ → Bool → Bool

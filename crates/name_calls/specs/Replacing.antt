@@ -24,7 +24,7 @@ use Rattle.fs_model.specs.Rules.{is_directory_kind}
 use Rattle.fs_model.specs.Scenes.{Scene, is_found, found_ino}
 use Rattle.fs_model.specs.States.{State}
 use Rattle.fs_model.specs.Trees.{Tree, is_within}
-use Rattle.call_parts.specs.declared.caller.Caller.{Caller}
+use Rattle.call_parts.specs.declared.reaching.Caller.{Caller}
 use Rattle.call_parts.specs.declared.reaching.WalkedBoth.{WalkedBoth}
 use Rattle.call_parts.specs.Performing.{IsStateOf}
 use Rattle.name_calls.specs.Removing.{IsNamedThere}

@@ -4,7 +4,7 @@
 use Rattle.std.specs.Prelude.{ℕ, List, Ok}
 use Rattle.sector_txn.specs.Sectors.{TxnState}
 use Rattle.fs_model.specs.declared.walk.Form.TheVariants.{Parent}
-use Rattle.call_parts.specs.declared.caller.Caller.{Caller}
+use Rattle.call_parts.specs.declared.reaching.Caller.{Caller}
 use Rattle.call_parts.specs.declared.reaching.Walked.{Walked}
 use Rattle.call_parts.specs.declared.reaching.WalkedBoth.{WalkedBoth}
 use Rattle.call_parts.specs.Reaching.{HasWalked, HasWalkedBoth}

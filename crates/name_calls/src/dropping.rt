@@ -1,15 +1,30 @@
-//! What becomes of a node that loses a name: POSIX.1-2017, unlink().
+//! A name that goes, and what becomes of the node that loses it: POSIX.1-2017, unlink().
 
 ghost use Rattle.std.specs.Prelude.{◌≡◌};
 ghost use Rattle.fs_model.specs.Processes.{is_open};
 ghost use Rattle.call_parts.specs.Altering.{AltersTransaction};
-ghost use Rattle.name_calls.specs.Dropping.{MayLoseName, LosesName, stays_with};
+ghost use Rattle.call_parts.specs.Dropping.{RemovesName};
+ghost use Rattle.name_calls.specs.Dropping.{MayRemove, MayLoseName, LosesName, stays_with};
 
-use call_parts::{drop_node, set_names};
+use call_parts::{drop_node, remove_name, set_names};
 use fs_cred::Refusal;
 use fs_layout::{Geometry, Inode, Kind};
+use fs_model::Found;
 use open_files::Procs;
 use sector_txn::Sectors;
+
+/// Removes the name that was found from its directory. EIO: the disk has failed.
+pub(crate) fn remove_found<S: Sectors>(
+    s: &mut S,
+    geometry: Geometry,
+    found: &Found,
+) -> Result<(), Refusal>
+    requires { MayRemove geometry found.now (S.state s.old) }
+    ensures { AltersTransaction (RemovesName geometry found.now.dir_ino found.now.name) (S.state s.old) (S.state s.new) result }
+{
+    let name = found.name.bytes();
+    remove_name(s, geometry, found.dir_ino, name)
+}
 
 // Whether inode `ino`, of this kind and with so many names left, stays.
 fn stays(procs: &Procs, ino: u32, kind: Kind, names: u32) -> bool

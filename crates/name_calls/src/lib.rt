@@ -6,22 +6,15 @@
 //! and of the path. So it is with [`enter`], which is no call, and never answers ENOMEM.
 #![tactic(auto)]
 
-mod directories;
 mod dropping;
 mod entering;
-mod linking;
-mod links;
-mod moving;
+mod making;
 mod performing;
 mod removal;
 mod renaming;
-mod replacing;
-mod ways;
 
-pub use directories::{chdir, mkdir};
 pub use entering::enter;
-pub use linking::link;
-pub use links::{readlink, symlink};
+pub use making::{chdir, link, mkdir, readlink, symlink};
 pub use performing::perform;
 pub use removal::{rmdir, unlink};
 pub use renaming::rename;

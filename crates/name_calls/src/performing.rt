@@ -3,9 +3,7 @@
 ghost use Rattle.std.specs.Prelude.{MatchOption, IsFalse};
 ghost use Rattle.call_parts.specs.Performing.{MayPerform, Performs, is_on_names};
 
-use crate::directories::{chdir, mkdir};
-use crate::linking::link;
-use crate::links::{readlink, symlink};
+use crate::making::{chdir, link, mkdir, readlink, symlink};
 use crate::removal::{rmdir, unlink};
 use crate::renaming::rename;
 use call_parts::{Asker, CallResult};

@@ -20,10 +20,10 @@ ghost use Rattle.name_calls.specs.Removing.{FindsName, IsNamedThere, removal_ask
 ghost use Rattle.call_parts.specs.Telling.{checked, ShowsTree, HasState, TellsTree, TellsOf};
 ghost use Rattle.name_calls.specs.Walking.{WalksToName};
 
-use crate::dropping::lose_name;
+use crate::dropping::{lose_name, remove_found};
 use call_parts::{
     CallResult, Caller, Walked, ask_directory, check_no_directory, check_slash, check_sticky,
-    inode_found, remove_name, touch, walk_path,
+    inode_found, touch, walk_path,
 };
 use dir_core::is_empty;
 use fs_cred::{Errno, Refusal};
@@ -155,8 +155,7 @@ fn take_name<S: Sectors>(
     ensures { AltersDisk caller.now.geometry 6 (λ done. HoldsChange caller.now.geometry caller.now.procs.now
         (MayGoAt found.now ino) (TakeName found.now.dir_ino found.now.name)) (S.state s.old) (S.state s.new) result }
 {
-    let name = found.name.bytes();
-    remove_name(s, caller.geometry, found.dir_ino, name)?;
+    remove_found(s, caller.geometry, found)?;
     lose_name(s, caller.geometry, caller.procs, ino, inode)?;
     Ok(())
 }

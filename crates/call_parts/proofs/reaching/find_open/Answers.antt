@@ -1,17 +1,13 @@
-use Rattle.std.proofs.Common.{◌≡◌, not, sym, ap, ◌∙◌}
-use Rattle.fs_cred.specs.declared.refusal.Refusal.{Refusal}
+use Rattle.std.proofs.Common.{not, sym, ap, ◌∙◌}
 use Rattle.fs_cred.specs.declared.refusal.Refusal.TheVariants.{Failed}
-use Rattle.fs_model.specs.States.{State}
 use Rattle.path_walk.proofs.Kept.{failed_with}
-use Rattle.call_parts.specs.Reaching.{IsNotOpen}
 use Rattle.call_parts.proofs.ByDescriptor.{opened, closed_open, unfit_open, fit_open}
 use Rattle.call_parts.proofs.reaching.find_open.Goals as goal
 
 pub returns-in_err-descriptor-clause-refused : goal.returns-in_err-descriptor-clause-refused
 returns-in_err-descriptor-clause-refused c =
     let r = c.from_residual.ensures in
-    failed_with c.from_residual.result (Failed c.in_err-descriptor.field-0.0)
-    (λ (e : Refusal). (s : State) → s.processes ≡ c.args.procs.now → IsNotOpen s c.args.pid c.args.fd c.args.purpose e) r.0 r.1
+    failed_with c.from_residual.result (Failed c.in_err-descriptor.field-0.0) _ r.0 r.1
     (λ s same. closed_open s c.args.pid c.args.fd c.args.purpose same c.in_err-descriptor.field-0.0 (sym c.in_err-descriptor.ensures.answer))
 
 pub returns-then-not-is_open_for-clause-refused : goal.returns-then-not-is_open_for-clause-refused

@@ -1,13 +1,9 @@
 use Rattle.std.proofs.Common.{ℕ}
-use Rattle.fs_cred.specs.declared.refusal.Refusal.{Refusal}
 use Rattle.fs_layout.specs.declared.inode.Inode.{Inode}
 use Rattle.fs_layout.specs.Images.{inode_at}
 use Rattle.fs_model.specs.Scenes.{found_ino}
-use Rattle.fs_model.specs.States.{State}
 use Rattle.path_walk.proofs.Kept.{failed_with}
-use Rattle.call_parts.specs.Performing.{IsStateOf}
 use Rattle.block_map.proofs.Runs.{unchanged_joined}
-use Rattle.call_parts.specs.Reaching.{RefusesReach}
 use Rattle.call_parts.proofs.Reachings.{walk_reaches, unreached, walk_kept, walked_below, inode_later}
 use Rattle.call_parts.proofs.Shown.{is_inode}
 use Rattle.call_parts.proofs.reaching.reach.Goals as goal
@@ -15,11 +11,7 @@ use Rattle.call_parts.proofs.reaching.reach.Goals as goal
 pub returns-in_err-process-clause-refused : goal.returns-in_err-process-clause-refused
 returns-in_err-process-clause-refused g c =
     let r = c.from_residual.ensures in
-    let old = g.S.Sectors.state c.args.s.now in
-    let new = g.S.Sectors.state c.walk_path.new.s in
-    failed_with c.from_residual.result c.in_err-process.field-0.0
-    (λ (e : Refusal). (s : State) → IsStateOf c.args.caller.now.geometry old.sectors c.args.caller.now.procs.now s
-    → RefusesReach old.disk new.disk s c.args.caller.now.pid c.args.checks c.args.form c.args.path.now e) r.0 r.1
+    failed_with c.from_residual.result c.in_err-process.field-0.0 _ r.0 r.1
     (λ s at. walk_reaches (c.in_err-process.ensures.refused s at))
 
 pub inode_found-requires : goal.inode_found-requires
@@ -30,14 +22,11 @@ inode_found-requires g c =
 pub returns-in_err-ino-clause-refused : goal.returns-in_err-ino-clause-refused
 returns-in_err-ino-clause-refused g c =
     let r = c.from_residual-in_err-ino.ensures in
-    let old = g.S.Sectors.state c.args.s.now in
     let mid = g.S.Sectors.state c.walk_path.new.s in
     let new = g.S.Sectors.state c.inode_found.new.s in
     let f = c.in_ok-process.field-0.found in
     let e = c.in_err-ino.field-0.0 in
-    failed_with c.from_residual-in_err-ino.result e
-    (λ (e : Refusal). (s : State) → IsStateOf c.args.caller.now.geometry old.sectors c.args.caller.now.procs.now s
-    → RefusesReach old.disk new.disk s c.args.caller.now.pid c.args.checks c.args.form c.args.path.now e) r.0 r.1
+    failed_with c.from_residual-in_err-ino.result e _ r.0 r.1
     (unreached new.disk e {A = ℕ × Inode} (found_ino f, inode_at c.args.caller.now.geometry mid.sectors (found_ino f)) c.in_ok-process.ensures.same c.in_ok-process.ensures.walked
     c.in_err-ino.ensures.each)
 

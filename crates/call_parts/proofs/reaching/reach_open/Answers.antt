@@ -2,11 +2,7 @@ use Rattle.std.proofs.Common.{◌≡◌, ap, ◌∙◌}
 use Rattle.fs_model.specs.Processes.{Descriptor}
 use Rattle.fs_layout.specs.Bytes.{SectorMap}
 use Rattle.fs_layout.specs.Images.{inode_at}
-use Rattle.fs_cred.specs.declared.refusal.Refusal.{Refusal}
-use Rattle.fs_model.specs.States.{State}
 use Rattle.path_walk.proofs.Kept.{failed_with, kept}
-use Rattle.call_parts.specs.Performing.{IsStateOf}
-use Rattle.call_parts.specs.Reaching.{RefusesOpen}
 use Rattle.call_parts.proofs.ByDescriptor.{open_as, not_open, open_below, unread_open}
 use Rattle.call_parts.proofs.Reachings.{ready_kept}
 use Rattle.call_parts.proofs.reaching.reach_open.Goals as goal
@@ -15,9 +11,7 @@ pub returns-in_err-descriptor-clause-refused : goal.returns-in_err-descriptor-cl
 returns-in_err-descriptor-clause-refused g c =
     let r = c.from_residual.ensures in
     let old = g.S.Sectors.state c.args.s.now in
-    failed_with c.from_residual.result c.in_err-descriptor.field-0.0
-    (λ (e : Refusal). (s : State) → IsStateOf c.args.caller.now.geometry old.sectors c.args.caller.now.procs.now s
-    → RefusesOpen old.disk old.disk s c.args.caller.now.pid c.args.fd c.args.purpose e) r.0 r.1
+    failed_with c.from_residual.result c.in_err-descriptor.field-0.0 _ r.0 r.1
     (λ s at. not_open s c.args.caller.now.pid c.args.fd c.args.purpose at.same_processes old.disk old.disk (c.in_err-descriptor.ensures.refused s at.same_processes))
 
 pub load_inode-requires-clause-below : goal.load_inode-requires-clause-below
@@ -31,9 +25,7 @@ returns-in_err-inode-clause-refused g c =
     let old = g.S.Sectors.state c.args.s.now in
     let new = g.S.Sectors.state c.load_inode.new.s in
     let e = c.in_err-inode.field-0.0 in
-    failed_with c.from_residual-in_err-inode.result e
-    (λ (e : Refusal). (s : State) → IsStateOf c.args.caller.now.geometry old.sectors c.args.caller.now.procs.now s
-    → RefusesOpen old.disk new.disk s c.args.caller.now.pid c.args.fd c.args.purpose e) r.0 r.1
+    failed_with c.from_residual-in_err-inode.result e _ r.0 r.1
     (λ s at. unread_open s c.args.caller.now.pid c.args.fd c.args.purpose at.same_processes old.disk new.disk e c.in_ok-descriptor.ensures.is_open c.in_err-inode.ensures.fault)
 
 pub returns-clause-opened : goal.returns-clause-opened

@@ -1,14 +1,10 @@
 use Rattle.std.proofs.Common.{sym, ap, ◌∙◌}
-use Rattle.fs_cred.specs.declared.refusal.Refusal.{Refusal}
 use Rattle.fs_cred.specs.declared.refusal.Need.TheVariants.{Own}
 use Rattle.fs_cred.specs.Credentials.{Credential}
 use Rattle.fs_cred.specs.Ownership.{Answer, may_own}
 use Rattle.fs_model.specs.Demands.{allowed_by}
-use Rattle.fs_model.specs.States.{State}
 use Rattle.path_walk.proofs.Kept.{failed_with}
-use Rattle.call_parts.specs.Performing.{IsStateOf}
 use Rattle.call_parts.specs.Telling.{checked}
-use Rattle.call_parts.specs.Reaching.{RefusesOwned}
 use Rattle.call_parts.proofs.Calling.{met_ok}
 use Rattle.call_parts.proofs.Reachings.{reach_owns, unowned}
 use Rattle.call_parts.proofs.reaching.reach_owned.Goals as goal
@@ -16,24 +12,16 @@ use Rattle.call_parts.proofs.reaching.reach_owned.Goals as goal
 pub returns-in_err-reached-clause-refused : goal.returns-in_err-reached-clause-refused
 returns-in_err-reached-clause-refused g c =
     let r = c.from_residual.ensures in
-    let old = g.S.Sectors.state c.args.s.now in
-    let new = g.S.Sectors.state c.reach.new.s in
-    failed_with c.from_residual.result c.in_err-reached.field-0.0
-    (λ (e : Refusal). (s : State) → IsStateOf c.args.caller.now.geometry old.sectors c.args.caller.now.procs.now s
-    → RefusesOwned old.disk new.disk s c.args.caller.now.pid c.args.checks c.args.form c.args.path.now e) r.0 r.1
+    failed_with c.from_residual.result c.in_err-reached.field-0.0 _ r.0 r.1
     (λ s at. reach_owns (c.in_err-reached.ensures.refused s at))
 
 pub returns-in_err-allowed_by-clause-refused : goal.returns-in_err-allowed_by-clause-refused
 returns-in_err-allowed_by-clause-refused g c =
     let r = c.from_residual-in_err-allowed_by.ensures in
-    let old = g.S.Sectors.state c.args.s.now in
-    let new = g.S.Sectors.state c.reach.new.s in
     let x = c.in_ok-reached.reached in
     let e = c.in_err-allowed_by.field-0.0 in
     let answer = c.may_own-answer.ensures.computed ∙ ap (λ (k : Credential). may_own k x.inode.uid) c.cred.ensures in
-    failed_with c.from_residual-in_err-allowed_by.result e
-    (λ (e : Refusal). (s : State) → IsStateOf c.args.caller.now.geometry old.sectors c.args.caller.now.procs.now s
-    → RefusesOwned old.disk new.disk s c.args.caller.now.pid c.args.checks c.args.form c.args.path.now e) r.0 r.1
+    failed_with c.from_residual-in_err-allowed_by.result e _ r.0 r.1
     (unowned e c.in_ok-reached.ensures.same c.in_ok-reached.ensures.reached
     (sym (ap (λ (a : Answer). checked (allowed_by 1 x.found.step Own a)) answer) ∙ sym c.in_err-allowed_by.ensures))
 

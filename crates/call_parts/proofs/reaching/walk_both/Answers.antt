@@ -1,18 +1,15 @@
 use Rattle.std.specs.Ordering.{nat_cmp}
 use Rattle.std.proofs.Common.{Ok, Err, sym, ap, subst, ◌∙◌}
-use Rattle.fs_cred.specs.declared.refusal.Refusal.{Refusal}
 use Rattle.fs_cred.specs.declared.refusal.Refusal.TheVariants.{Failed}
 use Rattle.fs_layout.specs.Bytes.{SectorMap}
 use Rattle.fs_layout.specs.Maps.{get}
 use Rattle.fs_model.specs.Processes.{ProcessTable}
-use Rattle.fs_model.specs.States.{State}
 use Rattle.fs_model.specs.Trees.{Room}
 use Rattle.path_walk.specs.Answers.{IsAnswered}
 use Rattle.call_parts.specs.TwoPaths.{walks_of}
 use Rattle.path_walk.proofs.HeldInodes.{held_inodes}
 use Rattle.path_walk.proofs.Kept.{failed_with, kept_back}
 use Rattle.call_parts.specs.Performing.{IsStateOf}
-use Rattle.call_parts.specs.Reaching.{RefusesBoth}
 use Rattle.call_parts.proofs.ByTwoPaths.{absent_both, unwalked_both, both_found, same_err}
 use Rattle.call_parts.proofs.Calling.{state_tree, same_process, cwd_there, cwd_below, second_cwd_there, second_cwd_below}
 use Rattle.call_parts.proofs.Reachings.{ready_kept}
@@ -23,9 +20,7 @@ returns-in_err-process-clause-refused g c =
     let r = c.from_residual.ensures in
     let old = g.S.Sectors.state c.args.s.now in
     let absent = c.in_err-process.ensures.absent in
-    failed_with c.from_residual.result (Failed c.in_err-process.field-0.0)
-    (λ (e : Refusal). (s : State) → IsStateOf c.args.caller.now.geometry old.sectors c.args.caller.now.procs.now s
-    → RefusesBoth old.disk old.disk s c.args.caller.now.pid c.args.old.now c.args.new.now e) r.0 r.1
+    failed_with c.from_residual.result (Failed c.in_err-process.field-0.0) _ r.0 r.1
     (λ s at. absent_both old.disk old.disk s c.args.caller.now.pid c.args.old.now c.args.new.now c.in_err-process.field-0.0 absent.0
     (ap (λ (d : ProcessTable). get nat_cmp d c.args.caller.now.pid) at.same_processes ∙ absent.1))
 
@@ -48,9 +43,7 @@ returns-in_err-first-clause-refused g c =
     let q = c.in_ok-process.process.now in
     let there = c.in_ok-process.ensures.found in
     let e = c.in_err-first.field-0.0 in
-    failed_with c.from_residual-in_err-first.result e
-    (λ (e : Refusal). (s : State) → IsStateOf c.args.caller.now.geometry old.sectors c.args.caller.now.procs.now s
-    → RefusesBoth old.disk new.disk s c.args.caller.now.pid c.args.old.now c.args.new.now e) r.0 r.1
+    failed_with c.from_residual-in_err-first.result e _ r.0 r.1
     (λ s at. unwalked_both old.disk new.disk s c.args.caller.now.pid q (same_process at c.args.caller.now.pid q there) c.args.old.now c.args.new.now e
     (λ x h. same_err e x (found.checked x h)) (λ none.
     subst (λ (r : Room). IsAnswered old.disk new.disk (walks_of r s.tree q.cred q.cwd q.second_cwd c.args.old.now c.args.new.now) (Err e)) (sym at.same_room)

@@ -8,14 +8,13 @@ use Rattle.fs_model.specs.AttributeCalls.{set_acl_arguments}
 use Rattle.fs_model.specs.Demands.{first_of}
 use Rattle.bit_alloc.proofs.Transactions.{spare_unchanged}
 use Rattle.sector_txn.proofs.TransactionRuns.{store_same, store_joined}
-use Rattle.path_walk.proofs.Kept.{kept, kept_back, sound_kept, interrupts_later}
+use Rattle.path_walk.proofs.Kept.{kept, sound_kept, interrupts_later}
 use Rattle.call_parts.specs.Asked.{holder_asked, acl_space_asked}
-use Rattle.call_parts.specs.Given.{SavesAcl, SavesDefaultAcl}
 use Rattle.call_parts.proofs.Calling.{met_ok}
 use Rattle.call_parts.proofs.Changed.{may_touch}
 use Rattle.call_parts.proofs.Reachings.{owned_refused, asked_refused, broken_later, changed, reached_below, reached_access}
 use Rattle.call_parts.proofs.Removed.{taken_after}
-use Rattle.file_calls.proofs.GivenAcls.{given_super, holder_refused, space_refused, acl_changed}
+use Rattle.file_calls.proofs.GivenAcls.{given_super, holder_refused, space_refused, acl_given}
 use Rattle.file_calls.proofs.Moded.{accessed_kind}
 use Rattle.file_calls.proofs.Rows.{set_acl_by_path}
 use Rattle.file_calls.proofs.acls.set_acl.Goals as goal
@@ -87,25 +86,14 @@ returns-in_err-replace_acl g c =
 
 pub touch-requires : goal.touch-requires
 touch-requires g c =
-    let acl = option_copied c.args.acl in
-    let x = c.in_ok-reached.ensures in
-    let o = x.owned in
+    let o = c.in_ok-reached.ensures.owned in
     let w = o.reached.walked in
-    let at = w.ready.is_state in
-    let n = c.in_ok-reached.reached.ino in
-    let v = c.in_ok-reached.reached.inode in
-    let given = (met_ok (first_of (set_acl_arguments c.args.which acl)) tt tt (sym c.check_acl-checks.ensures ∙ w.fine)).0 in
-    let holder = (met_ok (holder_asked c.args.which v.kind) tt tt (sym c.in_ok-check_holder.ensures)).0 in
     let same = c.in_ok-ask_for_space.ensures.same in
-    let mid = g.S.Sectors.state c.reach_owned.new.s in
-    let enough = (met_ok (first_of (acl_space_asked c.args.which acl (free_sectors c.args.caller.now.geometry mid.sectors))) tt tt c.in_ok-ask_for_space.ensures.each).0 in
-    let new = g.S.Sectors.state c.replace_acl.new.s in
     let done = c.in_ok-replace_acl.ensures in
     may_touch w.ready (store_joined same.store done.store)
-    (acl_changed at (w.found w.ready.state at) o.reached.inode o.met c.args.which acl holder new.sectors enough given
-    (λ is a e. kept_back (λ (m : SectorMap). SavesAcl c.args.caller.now.geometry n v.mode a m new.sectors) same (done.made.access is a e))
-    (λ is. kept_back (λ (m : SectorMap). SavesDefaultAcl c.args.caller.now.geometry n acl m new.sectors) same (done.made.default is)))
-    (reached_below o.reached, tt) 2 (taken_after c.args.caller.now.geometry 2 new same done.taken) (omega arith)
+    (acl_given w.ready.is_state (w.found w.ready.state w.ready.is_state) o.reached.inode o.met c.args.which (option_copied c.args.acl) (sym c.check_acl-checks.ensures ∙ w.fine)
+    (sym c.in_ok-check_holder.ensures) same c.in_ok-ask_for_space.ensures.each done.made)
+    (reached_below o.reached, tt) 2 (taken_after c.args.caller.now.geometry 2 (g.S.Sectors.state c.replace_acl.new.s) same done.taken) (omega arith)
 
 pub returns-in_err-touch : goal.returns-in_err-touch
 returns-in_err-touch g c =
@@ -117,20 +105,12 @@ returns-in_err-touch g c =
 pub returns : goal.returns
 returns g c =
     let by = set_acl_by_path c.args.path.now c.args.which (option_copied c.args.acl) c.check_acl-checks.result c.check_acl-checks.ensures in
-    let acl = option_copied c.args.acl in
     let x = c.in_ok-reached.ensures in
     let o = x.owned in
-    let n = c.in_ok-reached.reached.ino in
-    let v = c.in_ok-reached.reached.inode in
-    let given = (met_ok (first_of (set_acl_arguments c.args.which acl)) tt tt (sym c.check_acl-checks.ensures ∙ o.reached.walked.fine)).0 in
-    let holder = (met_ok (holder_asked c.args.which v.kind) tt tt (sym c.in_ok-check_holder.ensures)).0 in
     let same = c.in_ok-ask_for_space.ensures.same in
-    let mid = g.S.Sectors.state c.reach_owned.new.s in
-    let enough = (met_ok (first_of (acl_space_asked c.args.which acl (free_sectors c.args.caller.now.geometry mid.sectors))) tt tt c.in_ok-ask_for_space.ensures.each).0 in
-    let new = g.S.Sectors.state c.replace_acl.new.s in
     let done = c.in_ok-replace_acl.ensures in
-    changed by x.same o.reached.walked new (store_joined same.store done.store)
-    (given_super c.args.caller.now.geometry n c.args.which acl given done.made.access done.made.default ∙ same.sectors 0) c.in_ok-touch.ensures.made Done
-    (λ s has at. acl_changed at has o.reached.inode o.met c.args.which acl holder new.sectors enough given
-    (λ is a e. kept_back (λ (m : SectorMap). SavesAcl c.args.caller.now.geometry n v.mode a m new.sectors) same (done.made.access is a e))
-    (λ is. kept_back (λ (m : SectorMap). SavesDefaultAcl c.args.caller.now.geometry n acl m new.sectors) same (done.made.default is)))
+    let given = sym c.check_acl-checks.ensures ∙ o.reached.walked.fine in
+    changed by x.same o.reached.walked (g.S.Sectors.state c.replace_acl.new.s) (store_joined same.store done.store)
+    (given_super c.args.caller.now.geometry c.in_ok-reached.reached.ino c.args.which (option_copied c.args.acl) (met_ok (first_of (set_acl_arguments c.args.which (option_copied c.args.acl))) tt tt given).0
+    done.made.access done.made.default ∙ same.sectors 0) c.in_ok-touch.ensures.made Done
+    (λ s has at. acl_given at has o.reached.inode o.met c.args.which (option_copied c.args.acl) given (sym c.in_ok-check_holder.ensures) same c.in_ok-ask_for_space.ensures.each done.made)

@@ -2,7 +2,7 @@ use Rattle.std.specs.Prelude.{None}
 use Rattle.std.proofs.Common.{refl, sym, arith, ◌∙◌}
 use Rattle.inode_table.specs.Acls.{acls_take}
 use Rattle.call_parts.specs.NewNodes.{file_made}
-use Rattle.call_parts.proofs.Alterings.{fails, altered, not_altered_later}
+use Rattle.call_parts.proofs.Alterings.{fails, altered, may_alter_then, not_altered_later}
 use Rattle.call_parts.proofs.NewFile.{dir_kept, file_fits, file_taken, takes_few}
 use Rattle.call_parts.proofs.NewNames.{room_then, was_taken}
 use Rattle.file_calls.proofs.making.make_file.Goals as goal
@@ -28,10 +28,8 @@ name_inode-requires g c =
     let e = c.in-Ok.ensures in
     let few = takes_few c.args.acl.now in
     let left = e.touches.free in
-    let spare = c.requires.ready.spare in
-    let taken = e.touches.puts.room in
     record {
-      ready = record { sound = e.sound; spare = omega (arith, spare, taken) };
+      ready = may_alter_then 3 4 (omega arith) c.requires.ready e.touches.puts.room e.sound;
       inode = c.requires.directory ∙ sym (dir_kept can.holds can.directory c.in-Ok.ino e.free e.touches.inode);
       room = room_then can (g.S.Sectors.state c.new_inode.new.s).sectors c.in-Ok.ino (record { node = file_made c.args.uid c.args.gid c.args.acl.now; names = 1; parent = c.args.dir_ino })
           (file_taken e.free e.touches e.used c.args.dir_ino c.args.uid c.args.gid c.args.acl.now e.fields e.empty e.access e.default) (omega (arith, few, left));

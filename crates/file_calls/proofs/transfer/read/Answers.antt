@@ -1,4 +1,4 @@
-use Rattle.std.proofs.Common.{◌≡◌, ℕ, ◌+◌, List, length, sym, ap, refl, arith, ◌∙◌}
+use Rattle.std.proofs.Common.{◌≡◌, ℕ, ◌+◌, List, length, sym, ap, refl, ◌∙◌}
 use Rattle.fs_model.specs.declared.reply.Reply.TheVariants.{Data}
 use Rattle.fs_model.specs.Processes.{with_offset}
 use Rattle.fs_model.specs.Scenes.{with_process}
@@ -7,7 +7,7 @@ use Rattle.block_map.proofs.Runs.{unchanged_joined}
 use Rattle.dir_core.proofs.Scans.{inode_within}
 use Rattle.call_parts.proofs.ByDescriptor.{reached_as, opened_ok, open_refused, open_below, asked_performs, interrupted_performs, changed_one, offset_stays_open}
 use Rattle.file_calls.proofs.HeldFiles.{no_directory}
-use Rattle.file_calls.proofs.Reading.{read_by, read_refused, read_told, read_ends}
+use Rattle.file_calls.proofs.Reading.{read_by, read_refused, read_told, read_ends, end_fits}
 use Rattle.file_calls.proofs.transfer.read.Goals as goal
 
 pub reach_open-requires : goal.reach_open-requires
@@ -48,9 +48,8 @@ overflow_add-descriptor-inside g c =
     let x = reached_as c.descriptor.view_is c.in_ok-descriptor.ensures.opened in
     let v = c.in_ok-descriptor.inode in
     let file = no_directory v.kind c.in_ok-check_no_directory.ensures in
-    let ends = read_ends x.is_open.opened x.ready.state x.ready.is_state v x.inode file c.args.len c.in_ok-bytes.bytes c.in_ok-bytes.ensures.found in
-    let len = ap length c.bytes.ensures.all in
-    omega (arith, ends, len)
+    end_fits _ _ _ (read_ends x.is_open.opened x.ready.state x.ready.is_state v x.inode file c.args.len c.in_ok-bytes.bytes c.in_ok-bytes.ensures.found)
+    (ap length c.bytes.ensures.all)
 
 pub seek-requires : goal.seek-requires
 seek-requires g c =

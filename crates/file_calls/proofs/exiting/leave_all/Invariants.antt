@@ -1,5 +1,0 @@
-use Rattle.file_calls.proofs.Endings.{IsLeaving}
-use Rattle.file_calls.proofs.exiting.leave_all.Given as goal
-
-abbrev pub invariant-loop-fd : goal.invariant-loop-fd
-invariant-loop-fd g l = IsLeaving l.geometry (g.S.Sectors.state l.initial.s) (g.S.Sectors.state l.s) l.procs l.pid l.fd
