@@ -1,67 +1,69 @@
 //! Worked rows of texts, permission bits and limits.
-use posix_acl::{Acl, AclFault, Entry, Perms, Tag, TextForm};
+use posix_acl::AclFault::{
+    self, BadText, MissingBase, NoMask, TooMany, TwiceBase, TwiceQualifier, TwoMasks,
+};
+use posix_acl::{Acl, Entry, Perms, Tag, TextForm};
 use std::alloc::Global;
-use std::test::Fail;
 
-// Texts, how many times over they stand, and their first fault.
-static FAULTY: [(&str, usize, AclFault); 25] = [
-    ("", 1, AclFault::MissingBase),
-    ("u::rw-,u::r--,g::---,o::---", 1, AclFault::TwiceBase),
-    (
-        "u::rw-,u:5:r--,u:5:r--,g::r--,o::---",
-        1,
-        AclFault::TwiceQualifier,
-    ),
-    ("u::rw-,g::r--,o::---,u:5:r--", 1, AclFault::NoMask),
-    ("u::rw-,g::r--,m::r--,m::r--,o::---", 1, AclFault::TwoMasks),
-    ("default:user::rwx", 1, AclFault::BadText),
-    (
-        "u::rwx,u:4294967296:r--,g::r--,m::rwx,o::---",
-        1,
-        AclFault::BadText,
-    ),
-    ("u::rwx,u:01:r--,g::r--,m::rwx,o::---", 1, AclFault::BadText),
-    ("u::rwx,u:+1:r--,g::r--,m::rwx,o::---", 1, AclFault::BadText),
-    ("u::rwx,u:x:r--,g::r--,m::rwx,o::---", 1, AclFault::BadText),
-    ("u::rrw,g::r--,o::---", 1, AclFault::BadText),
-    ("u::rwxr,g::r--,o::---", 1, AclFault::BadText),
-    ("u::,g::r--,o::---", 1, AclFault::BadText),
-    ("u:rwx,g::r--,o::---", 1, AclFault::BadText),
-    ("u::rwx:,g::r--,o::---", 1, AclFault::BadText),
-    ("m:5:rwx,u::rwx,g::r--,o::---", 1, AclFault::BadText),
-    ("u ::rwx,g::r--,o::---", 1, AclFault::BadText),
-    ("u::rwx g::r--,o::---", 1, AclFault::BadText),
-    ("\u{e9}::rwx", 1, AclFault::BadText),
-    ("x", 4 << 20, AclFault::BadText),
-    (":", 4 << 20, AclFault::BadText),
-    ("#", 4 << 20, AclFault::MissingBase),
-    (",", 4 << 20, AclFault::MissingBase),
-    ("\n", 4 << 20, AclFault::MissingBase),
-    (" ", 4 << 20, AclFault::MissingBase),
+// Texts, and their first fault.
+static FAULTY: [(&str, AclFault); 19] = [
+    ("", MissingBase),
+    ("u::rw-,u::r--,g::---,o::---", TwiceBase),
+    ("u::rw-,u:5:r--,u:5:r--,g::r--,o::---", TwiceQualifier),
+    ("u::rw-,g::r--,o::---,u:5:r--", NoMask),
+    ("u::rw-,g::r--,m::r--,m::r--,o::---", TwoMasks),
+    ("default:user::rwx", BadText),
+    ("u::rwx,u:4294967296:r--,g::r--,m::rwx,o::---", BadText),
+    ("u::rwx,u:01:r--,g::r--,m::rwx,o::---", BadText),
+    ("u::rwx,u:+1:r--,g::r--,m::rwx,o::---", BadText),
+    ("u::rwx,u:x:r--,g::r--,m::rwx,o::---", BadText),
+    ("u::rrw,g::r--,o::---", BadText),
+    ("u::rwxr,g::r--,o::---", BadText),
+    ("u::,g::r--,o::---", BadText),
+    ("u:rwx,g::r--,o::---", BadText),
+    ("u::rwx:,g::r--,o::---", BadText),
+    ("m:5:rwx,u::rwx,g::r--,o::---", BadText),
+    ("u ::rwx,g::r--,o::---", BadText),
+    ("u::rwx g::r--,o::---", BadText),
+    ("\u{e9}::rwx", BadText),
 ];
 
-// What is told, but for want of memory, which ends a test and shows nothing.
-fn with_memory<T>(told: Result<T, AclFault>) -> Result<Result<T, AclFault>, AclFault> {
-    match told {
-        Err(AclFault::OutOfMemory) => Err(AclFault::OutOfMemory),
-        told => Ok(told),
-    }
-}
+// Texts that stand 4,194,304 times over.
+static REPEATED: [(&str, AclFault); 6] = [
+    ("x", BadText),
+    (":", BadText),
+    ("#", MissingBase),
+    (",", MissingBase),
+    ("\n", MissingBase),
+    (" ", MissingBase),
+];
 
 fn fault_of(alloc: Global, text: &[u8], times: usize) -> Result<Option<AclFault>, AclFault> {
     let text = text.repeat(alloc, times)?;
-    Ok(with_memory(Acl::parse_text(alloc, &text))?.err())
+    Ok(Acl::parse_text(alloc, &text).err())
+}
+
+// The first text that has another fault where it stands so many times over.
+fn other_fault(alloc: Global, texts: &[(&str, AclFault)], times: usize) -> Option<usize> {
+    for i in 0..texts.len() {
+        let row = texts[i];
+        if fault_of(alloc, row.0.as_bytes(), times) != Ok(Some(row.1)) {
+            return Some(i);
+        }
+    }
+    None
 }
 
 #[test]
-fn names_the_first_fault_of_a_text(rt: HostRuntime) -> Result<(), Fail> {
-    for &(text, times, fault) in &FAULTY {
-        let seen = fault_of(rt.alloc(), text.as_bytes(), times)?;
-        assert!(rt; seen == Some(fault), "{times} times {text}");
-    }
-    let seen = fault_of(rt.alloc(), &[0xff, 0, b':'], 1)?;
-    assert!(rt; seen == Some(AclFault::BadText), "bytes that are no text");
-    Ok(())
+fn names_the_first_fault_of_a_text(rt: HostRuntime) {
+    let alloc = rt.alloc();
+    let wrong = [
+        other_fault(alloc, &FAULTY, 1),
+        other_fault(alloc, &REPEATED, 4 << 20),
+    ];
+    let seen = (wrong, fault_of(alloc, &[0xff, 0, b':'], 1));
+    let wanted = ([None; 2], Ok(Some(BadText)));
+    assert!(rt; seen == wanted, "{seen:?}");
 }
 
 // Texts of one list.
@@ -74,41 +76,55 @@ static TEXTS: [&str; 6] = [
     "user::rw-\nuser:1000:rwx\ngroup::r--\nmask::r--\nother::---\n",
 ];
 
-// Whether the list of a text is written so in a form.
-fn is_rewritten(alloc: Global, text: &str, form: TextForm, wanted: &str) -> Result<bool, AclFault> {
-    let seen = Acl::parse_text(alloc, text.as_bytes())?.write_text(form)?;
-    Ok(seen.as_str() == wanted)
-}
-
-#[test]
-fn reads_and_writes_texts(rt: HostRuntime) -> Result<(), Fail> {
-    for (form, wanted) in [(TextForm::Short, TEXTS[4]), (TextForm::Long, TEXTS[5])] {
-        for &text in &TEXTS {
-            let seen = is_rewritten(rt.alloc(), text, form, wanted)?;
-            assert!(rt; seen, "{text}");
-        }
-    }
-    Ok(())
-}
-
-// What a new file takes from a default list with its mode, or the list after it is given permission bits.
+// A list as it is, what a new file takes from a default list with its mode, or the list after it is given permission bits.
 #[derive(Clone, Copy)]
 enum Change {
+    None,
     Inherited(u16),
     Given(u16),
 }
 
-// Whether the list of a text is written so once it is changed.
-fn is_changed(alloc: Global, text: &str, change: Change, wanted: &str) -> Result<bool, AclFault> {
-    let changed = after(Acl::parse_text(alloc, text.as_bytes())?, change)?;
-    Ok(changed.write_text(TextForm::Short)?.as_str() == wanted)
-}
-
 fn after(acl: Acl, change: Change) -> Result<Acl, AclFault> {
     match change {
+        Change::None => Ok(acl),
         Change::Inherited(mode) => acl.inherit(mode),
         Change::Given(bits) => Ok(acl.with_mode_bits(bits)),
     }
+}
+
+fn is_written(acl: &Acl, form: TextForm, wanted: &str) -> Result<bool, AclFault> {
+    Ok(acl.write_text(form)?.as_str() == wanted)
+}
+
+// Whether the list of a text is written so in a form once it is changed.
+fn is_changed(
+    alloc: Global,
+    text: &str,
+    change: Change,
+    form: TextForm,
+    wanted: &str,
+) -> Result<bool, AclFault> {
+    let changed = after(Acl::parse_text(alloc, text.as_bytes())?, change)?;
+    is_written(&changed, form, wanted)
+}
+
+// The first of the texts of one list that isn't written so in a form.
+fn other_text(alloc: Global, form: TextForm, wanted: &str) -> Option<usize> {
+    for i in 0..TEXTS.len() {
+        if is_changed(alloc, TEXTS[i], Change::None, form, wanted) != Ok(true) {
+            return Some(i);
+        }
+    }
+    None
+}
+
+#[test]
+fn reads_and_writes_texts(rt: HostRuntime) {
+    let wrong = [
+        other_text(rt.alloc(), TextForm::Short, TEXTS[4]),
+        other_text(rt.alloc(), TextForm::Long, TEXTS[5]),
+    ];
+    assert!(rt; wrong == [None; 2], "{wrong:?}");
 }
 
 static CHANGES: [(&str, Change, &str); 3] = [
@@ -129,13 +145,21 @@ static CHANGES: [(&str, Change, &str); 3] = [
     ),
 ];
 
-#[test]
-fn permission_bits_change_a_list(rt: HostRuntime) -> Result<(), Fail> {
-    for &(text, change, wanted) in &CHANGES {
-        let seen = is_changed(rt.alloc(), text, change, wanted)?;
-        assert!(rt; seen, "{text}");
+// The first text whose list isn't written as it is to be once it is changed.
+fn other_change(alloc: Global) -> Option<usize> {
+    for i in 0..CHANGES.len() {
+        let row = CHANGES[i];
+        if is_changed(alloc, row.0, row.1, TextForm::Short, row.2) != Ok(true) {
+            return Some(i);
+        }
     }
-    Ok(())
+    None
+}
+
+#[test]
+fn permission_bits_change_a_list(rt: HostRuntime) {
+    let wrong = other_change(rt.alloc());
+    assert!(rt; wrong == None, "{wrong:?}");
 }
 
 // The permission bits, whether there is more than they say, and how many entries there are.
@@ -154,23 +178,23 @@ fn of_text(alloc: Global, text: &str) -> Result<Summary, AclFault> {
 }
 
 #[test]
-fn a_list_shows_permission_bits(rt: HostRuntime) -> Result<(), Fail> {
+fn a_list_shows_permission_bits(rt: HostRuntime) {
     let seen = [
-        of_mode(rt.alloc(), 0o751)?,
-        of_text(rt.alloc(), CHANGES[0].0)?,
-        of_text(rt.alloc(), CHANGES[1].2)?,
+        of_mode(rt.alloc(), 0o751),
+        of_text(rt.alloc(), CHANGES[0].0),
+        of_text(rt.alloc(), CHANGES[1].2),
     ];
-    assert!(rt;
-        seen == [(0o751, false, 3), (0o770, true, 5), (0o777, true, 5)],
-        "{seen:?}"
-    );
-    Ok(())
+    let wanted = [
+        Ok((0o751, false, 3)),
+        Ok((0o770, true, 5)),
+        Ok((0o777, true, 5)),
+    ];
+    assert!(rt; seen == wanted, "{seen:?}");
 }
 
-// The base entries, a mask and so many users, the highest id first.
-fn with_users(alloc: Global, users: u32) -> Result<Vec<Entry>, AclFault> {
+// Adds the base entries, a mask and so many users, the highest id first.
+fn add_entries(entries: &mut Vec<Entry>, users: u32) -> Result<(), AclFault> {
     let perms = Perms::from_digit(4);
-    let mut entries = Vec::new(alloc);
     for tag in [Tag::Mask, Tag::Other, Tag::GroupObj, Tag::UserObj] {
         entries.push(Entry { tag, id: 7, perms })?;
     }
@@ -181,24 +205,25 @@ fn with_users(alloc: Global, users: u32) -> Result<Vec<Entry>, AclFault> {
             perms,
         })?;
     }
-    Ok(entries)
+    Ok(())
+}
+
+fn with_users(alloc: Global, users: u32) -> Result<Acl, AclFault> {
+    let mut entries = Vec::new(alloc);
+    add_entries(&mut entries, users)?;
+    Acl::from_entries(alloc, &entries)
 }
 
 // How many entries such a list has, and the ids of the first two.
 fn of_users(alloc: Global, users: u32) -> Result<(usize, u32, u32), AclFault> {
-    let acl = Acl::from_entries(alloc, &with_users(alloc, users)?)?;
+    let acl = with_users(alloc, users)?;
     let entries = acl.entries();
     Ok((entries.len(), entries[0].id, entries[1].id))
 }
 
 #[test]
-fn holds_32_entries(rt: HostRuntime) -> Result<(), Fail> {
-    for (users, wanted) in [
-        (28, Ok((32, 0, u32::MAX - 27))),
-        (29, Err(AclFault::TooMany)),
-    ] {
-        let seen = with_memory(of_users(rt.alloc(), users))?;
-        assert!(rt; seen == wanted, "{users}");
-    }
-    Ok(())
+fn holds_32_entries(rt: HostRuntime) {
+    let seen = [of_users(rt.alloc(), 28), of_users(rt.alloc(), 29)];
+    let wanted = [Ok((32, 0, u32::MAX - 27)), Err(TooMany)];
+    assert!(rt; seen == wanted, "{seen:?}");
 }

@@ -5,9 +5,6 @@ use fs_cred::{
     one_answer, owns_or_may_chown, sticky_allows,
 };
 use std::alloc::Global;
-use std::test::Fail;
-
-type Seen = ((u32, u32, usize, u32), [bool; 6], [Option<CredFault>; 3]);
 
 // What so many groups of a process are.
 fn process_fault(alloc: Global, count: usize) -> Result<Option<CredFault>, CredFault> {
@@ -15,11 +12,14 @@ fn process_fault(alloc: Global, count: usize) -> Result<Option<CredFault>, CredF
     Ok(Cred::of_process(alloc, 7, 8, &groups, Caps::empty()).err())
 }
 
-// The parts of a copy of a credential with 16 more groups, whether it is in three groups and has three sets of capabilities,
-// what 17 groups are, and the most and one more of a process.
-fn with_groups(alloc: Global) -> Result<Seen, CredFault> {
-    let both = Caps::CHOWN.union(Caps::FSETID);
-    let cred = Cred::with_caps(alloc, 7, u32::MAX, &[9; 16], both)?.try_clone(alloc)?;
+fn both() -> Caps {
+    Caps::CHOWN.union(Caps::FSETID)
+}
+
+// The parts of a credential, and whether it is in three groups and has three sets of capabilities.
+type Parts = ((u32, u32, usize, u32), [bool; 6]);
+
+fn parts_of(cred: &Cred) -> Parts {
     let parts = (
         cred.uid(),
         cred.gid(),
@@ -30,32 +30,37 @@ fn with_groups(alloc: Global) -> Result<Seen, CredFault> {
         cred.is_member(u32::MAX),
         cred.is_member(9),
         cred.is_member(7),
-        cred.is_capable(both),
+        cred.is_capable(both()),
         cred.is_capable(Caps::FSETID),
         cred.is_capable(Caps::FSETID.union(Caps::FOWNER)),
     ];
-    let faults = [
-        Cred::with_caps(alloc, 7, 8, &[9; 17], both).err(),
+    (parts, tests)
+}
+
+// Those of a copy of a credential with 16 more groups.
+fn parts_of_copy(alloc: Global) -> Result<Parts, CredFault> {
+    let cred = Cred::with_caps(alloc, 7, u32::MAX, &[9; 16], both())?;
+    Ok(parts_of(&cred.try_clone(alloc)?))
+}
+
+// What 17 groups are, and the most and one more of a process.
+fn faults(alloc: Global) -> Result<[Option<CredFault>; 3], CredFault> {
+    Ok([
+        Cred::with_caps(alloc, 7, 8, &[9; 17], both()).err(),
         process_fault(alloc, MAX_PROCESS_GROUPS)?,
         process_fault(alloc, MAX_PROCESS_GROUPS + 1)?,
-    ];
-    Ok((parts, tests, faults))
+    ])
 }
 
 #[test]
-fn credentials_have_groups_and_capabilities(rt: HostRuntime) -> Result<(), Fail> {
-    let seen = with_groups(rt.alloc())?;
-    let wanted = (
+fn credentials_have_groups_and_capabilities(rt: HostRuntime) {
+    let seen = (parts_of_copy(rt.alloc()), faults(rt.alloc()));
+    let parts = (
         (7, u32::MAX, 16, 17),
         [true, true, false, true, true, false],
-        [
-            Some(CredFault::TooManyGroups),
-            None,
-            Some(CredFault::TooManyGroups),
-        ],
     );
-    assert!(rt; seen == wanted, "{seen:?}");
-    Ok(())
+    let many = Some(CredFault::TooManyGroups);
+    assert!(rt; seen == (Ok(parts), Ok([many, None, many])), "{seen:?}");
 }
 
 // Whether a caller may own what is user 1000's and group 100's, ask for another owner, give it to user 0 and to group 0, remove
@@ -90,12 +95,20 @@ fn rights_of(alloc: Global, uid: u32, groups: &[u32], caps: u32) -> Result<[bool
     Ok(rights(&cred))
 }
 
-#[test]
-fn a_capability_passes_its_questions(rt: HostRuntime) -> Result<(), Fail> {
-    for &(uid, groups, caps, wanted) in &RIGHTS {
-        let seen = rights_of(rt.alloc(), uid, groups, caps)?;
-        assert!(rt; seen == wanted, "{uid} {caps}");
+// The first user who may do something else.
+fn other_rights(alloc: Global) -> Option<usize> {
+    for i in 0..RIGHTS.len() {
+        let row = RIGHTS[i];
+        if rights_of(alloc, row.0, row.1, row.2) != Ok(row.3) {
+            return Some(i);
+        }
     }
+    None
+}
+
+#[test]
+fn a_capability_passes_its_questions(rt: HostRuntime) {
     one_answer();
-    Ok(())
+    let wrong = other_rights(rt.alloc());
+    assert!(rt; wrong == None, "{wrong:?}");
 }

@@ -30,7 +30,9 @@ const UNMASKED: &str = "u::rw-,u:1001:rw-,g::r--,m::rw-,o::---";
 const CLOSED: &str = "u::---,u:1001:---,g::---,g:5:---,m::---,o::---";
 
 // The ACL of a file of user 1000 and group 100, who asks with which groups, for what, and what answers it.
-static DECISIONS: [(&str, u32, u32, &[u32], u16, bool, Rule); 15] = [
+type Decision = (&'static str, u32, u32, &'static [u32], u16, bool, Rule);
+
+static DECISIONS: [Decision; 15] = [
     (OPEN_BUT_TO_THE_OWNER, 1000, 100, &[], R, false, Rule::Owner),
     (OPEN_BUT_TO_THE_OWNER, 1001, 101, &[], R, true, Rule::Other),
     (OPEN_TO_THE_OWNER, 1000, 100, &[], R + W, true, Rule::Owner),
@@ -72,19 +74,31 @@ fn asked(
     gid: u32,
     groups: &[u32],
     want: u16,
-) -> Result<Verdict, Fail> {
-    let node = file(alloc, acl)?;
-    let cred = Cred::new(alloc, uid, gid, groups)?;
-    Ok(ask(&cred, &node, want))
+) -> Option<Verdict> {
+    let node = file(alloc, acl).ok()?;
+    let cred = Cred::new(alloc, uid, gid, groups).ok()?;
+    Some(ask(&cred, &node, want))
+}
+
+fn is_decided(alloc: Global, row: &Decision) -> bool {
+    let &(acl, uid, gid, groups, want, yes, rule) = row;
+    asked(alloc, acl, uid, gid, groups, want) == Some(Verdict { yes, rule })
+}
+
+// The first row that is answered otherwise.
+fn other_decision(alloc: Global) -> Option<usize> {
+    for i in 0..DECISIONS.len() {
+        if !is_decided(alloc, &DECISIONS[i]) {
+            return Some(i);
+        }
+    }
+    None
 }
 
 #[test]
-fn an_entry_decides(rt: HostRuntime) -> Result<(), Fail> {
-    for &(acl, uid, gid, groups, want, yes, rule) in &DECISIONS {
-        let seen = asked(rt.alloc(), acl, uid, gid, groups, want)?;
-        assert!(rt; seen == Verdict { yes, rule }, "{uid} {gid} {want} {acl}");
-    }
-    Ok(())
+fn an_entry_decides(rt: HostRuntime) {
+    let wrong = other_decision(rt.alloc());
+    assert!(rt; wrong == None, "{wrong:?}");
 }
 
 // What user 7, who has these capabilities, may do to a file or directory of user 0 that has this mode: by the list that the
@@ -95,9 +109,9 @@ fn asked_by_capable(
     kind: NodeKind,
     mode: u16,
     want: u16,
-) -> Result<(Verdict, Verdict), Fail> {
-    let cred = Cred::with_caps(alloc, 7, 7, &[], caps)?;
-    let acl = Acl::from_mode(alloc, mode)?;
+) -> Option<[Verdict; 2]> {
+    let cred = Cred::with_caps(alloc, 7, 7, &[], caps).ok()?;
+    let acl = Acl::from_mode(alloc, mode).ok()?;
     let node = Node {
         kind,
         owner: 0,
@@ -105,7 +119,7 @@ fn asked_by_capable(
         acl,
     };
     let by_mode = decide_by_mode(&cred, kind, 0, 0, mode, Perms::from_digit(want));
-    Ok((ask(&cred, &node, want), by_mode))
+    Some([ask(&cred, &node, want), by_mode])
 }
 
 // The capabilities DAC_OVERRIDE, DAC_READ_SEARCH and FOWNER as numbers.
@@ -120,7 +134,9 @@ const BY_PASSING: Rule = Rule::Capability(Caps::DAC_OVERRIDE);
 const BY_READING: Rule = Rule::Capability(Caps::DAC_READ_SEARCH);
 
 // The capabilities, what is asked for of what kind and mode, and what answers it.
-static CAPABLE: [(u32, NodeKind, u16, u16, bool, Rule); 17] = [
+type Capable = (u32, NodeKind, u16, u16, bool, Rule);
+
+static CAPABLE: [Capable; 17] = [
     (PASSES, NodeKind::File, 0o644, X, false, Rule::NoExecuteBit),
     (PASSES, NodeKind::File, 0o001, X, true, BY_PASSING),
     (PASSES, NodeKind::File, 0o010, R + X, true, BY_PASSING),
@@ -147,15 +163,25 @@ static CAPABLE: [(u32, NodeKind, u16, u16, bool, Rule); 17] = [
     (OWNS, NodeKind::File, 0o660, R, false, Rule::Other),
 ];
 
-#[test]
-fn capabilities_decide_first(rt: HostRuntime) -> Result<(), Fail> {
-    for &(caps, kind, mode, want, yes, rule) in &CAPABLE {
-        let caps = Caps::from_bits_retain(caps);
-        let (seen, by_mode) = asked_by_capable(rt.alloc(), caps, kind, mode, want)?;
-        let wanted = Verdict { yes, rule };
-        assert!(rt; seen == wanted && by_mode == wanted, "{mode} {want}");
+fn is_decided_for_capable(alloc: Global, row: &Capable) -> bool {
+    let &(caps, kind, mode, want, yes, rule) = row;
+    let seen = asked_by_capable(alloc, Caps::from_bits_retain(caps), kind, mode, want);
+    seen == Some([Verdict { yes, rule }; 2])
+}
+
+fn other_for_capable(alloc: Global) -> Option<usize> {
+    for i in 0..CAPABLE.len() {
+        if !is_decided_for_capable(alloc, &CAPABLE[i]) {
+            return Some(i);
+        }
     }
-    Ok(())
+    None
+}
+
+#[test]
+fn capabilities_decide_first(rt: HostRuntime) {
+    let wrong = other_for_capable(rt.alloc());
+    assert!(rt; wrong == None, "{wrong:?}");
 }
 
 fn yes(rule: Rule) -> Verdict {
@@ -222,8 +248,8 @@ fn entry(tag: Tag, id: u32, digit: u16) -> Entry {
     }
 }
 
-fn acl(alloc: Global, list: &Digits) -> Result<Acl, AclFault> {
-    let mut entries = Vec::with_capacity(alloc, 8)?;
+// Adds the entries of a list.
+fn add_entries(entries: &mut Vec<Entry>, list: &Digits) -> Result<(), AclFault> {
     for (tag, id, digit) in [
         (Tag::Other, 0, Some(list.other)),
         (Tag::GroupObj, 0, Some(list.group)),
@@ -238,6 +264,12 @@ fn acl(alloc: Global, list: &Digits) -> Result<Acl, AclFault> {
             entries.push(entry(tag, id, digit))?;
         }
     }
+    Ok(())
+}
+
+fn acl(alloc: Global, list: &Digits) -> Result<Acl, AclFault> {
+    let mut entries = Vec::with_capacity(alloc, 8)?;
+    add_entries(&mut entries, list)?;
     Acl::from_entries(alloc, &entries)
 }
 
@@ -306,13 +338,13 @@ fn by_groups(list: &Digits, asker: Asker, want: u16) -> Verdict {
         (asker.groups[1], list.groups[0], Rule::NamedGroup(1)),
         (asker.groups[2], list.groups[1], Rule::NamedGroup(2)),
     ] {
-        match digit {
-            Some(digit) if member && contains(digit, want) => return with_mask(
-                digit, list.mask, want, rule,
-            ),
-            Some(_) if member => first = first.or(Some(rule)),
-            _ => {}
+        let (true, Some(digit)) = (member, digit) else {
+            continue;
+        };
+        if contains(digit, want) {
+            return with_mask(digit, list.mask, want, rule);
         }
+        first = first.or(Some(rule));
     }
     match first {
         Some(rule) => no(rule),
@@ -332,15 +364,14 @@ static USERS: [User; 6] = [
     (5, 1, &[], [false, true, false]),
 ];
 
-// Each of these users with each set of capabilities.
-fn askers(alloc: Global) -> Result<Vec<(Cred, Asker)>, Fail> {
-    let mut askers = Vec::new(alloc);
+// Adds each of these users with each set of capabilities.
+fn add_askers(alloc: Global, askers: &mut Vec<(Cred, Asker)>) -> Result<(), Fail> {
     for &user in &USERS {
         for caps in 0..32 {
             askers.push(with_caps(alloc, user, caps)?)?;
         }
     }
-    Ok(askers)
+    Ok(())
 }
 
 fn with_caps(alloc: Global, user: User, caps: u32) -> Result<(Cred, Asker), CredFault> {
@@ -420,7 +451,8 @@ fn agreeing_of(alloc: Global, askers: &[(Cred, Asker)]) -> Result<u32, AclFault>
 }
 
 fn agreeing(alloc: Global) -> Result<u32, Fail> {
-    let askers = askers(alloc)?;
+    let mut askers = Vec::new(alloc);
+    add_askers(alloc, &mut askers)?;
     Ok(agreeing_of(alloc, &askers)?)
 }
 

@@ -232,6 +232,20 @@ fn is_slot(part: Part, sector: &[u8; 512], name: &[u8]) -> bool {
     }
 }
 
+fn is_commit(sector: &[u8; 512]) -> bool {
+    match Commit::read_from(sector, 0) {
+        Ok(read) => read.targets() == TARGETS.as_slice(),
+        Err(_) => false,
+    }
+}
+
+fn is_acl(sector: &[u8; 512]) -> bool {
+    match AclSector::read_from(sector, 0) {
+        Ok(read) => read.entries() == [OWNER, USER].as_slice(),
+        Err(_) => false,
+    }
+}
+
 // The part's bytes are read as what was written.
 fn is_read_again(part: Part) -> bool {
     match part {
@@ -239,19 +253,13 @@ fn is_read_again(part: Part) -> bool {
         Part::NextSuper => {
             Super::read_from(&sector_of(part, NEXT_SUPER_BYTES), 0) == Ok(NEXT_SUPERBLOCK)
         }
-        Part::Commit => match Commit::read_from(&sector_of(part, COMMIT_BYTES), 0) {
-            Ok(read) => read.targets() == TARGETS.as_slice(),
-            Err(_) => false,
-        },
+        Part::Commit => is_commit(&sector_of(part, COMMIT_BYTES)),
         Part::Inode => Inode::read_from(&sector_of(part, FILE_BYTES), 128) == Ok(FILE),
         Part::AnyInode => Inode::read_any(&sector_of(part, TIMED_BYTES), 128) == Ok(TIMED_FILE),
         Part::Slot | Part::LongSlot | Part::NextLongSlot => {
             is_slot(part, &sector_of(part, SLOT_BYTES), b"hello".as_slice())
         }
-        Part::AclSector => match AclSector::read_from(&sector_of(part, ACL_BYTES), 0) {
-            Ok(read) => read.entries() == [OWNER, USER].as_slice(),
-            Err(_) => false,
-        },
+        Part::AclSector => is_acl(&sector_of(part, ACL_BYTES)),
     }
 }
 
@@ -260,8 +268,8 @@ fn is_as_said(part: Part, sector: &[u8; 512], bytes: &[u8]) -> bool {
     *sector == sector_of(part, bytes) && is_read_again(part)
 }
 
-#[test]
-fn structures_are_as_the_format_says(rt: HostRuntime) {
+// The first structure that isn't written so, or isn't read again; or none.
+fn first_wrong_structure() -> Option<Part> {
     for (part, sector, bytes) in [
         (Part::Super, written_super(&SUPERBLOCK), SUPER_BYTES),
         (
@@ -290,9 +298,17 @@ fn structures_are_as_the_format_says(rt: HostRuntime) {
         ),
         (Part::AclSector, written_acl(), ACL_BYTES),
     ] {
-        let seen = is_as_said(part, &sector, bytes);
-        assert!(rt; seen, "{part:?} {bytes:?}");
+        if !is_as_said(part, &sector, bytes) {
+            return Some(part);
+        }
     }
+    None
+}
+
+#[test]
+fn structures_are_as_the_format_says(rt: HostRuntime) {
+    let wrong = first_wrong_structure();
+    assert!(rt; wrong.is_none(), "{wrong:?}");
 }
 
 // What is read of a part's bytes where some of them are changed: the first that is, the one past the last, and their
@@ -496,24 +512,28 @@ fn fault_of(part: Part, sector: &[u8; 512]) -> Option<LayoutFault> {
     }
 }
 
-#[test]
-fn wrong_bytes_are_refused(rt: HostRuntime) {
-    for reads in [
-        SUPER_READS.as_slice(),
-        COMMIT_READS.as_slice(),
-        FILE_READS.as_slice(),
-        INODE_READS.as_slice(),
-        SLOT_READS.as_slice(),
-        ACL_READS.as_slice(),
-    ] {
-        for &(part, bytes, first, end, byte, fault) in reads {
-            let found = fault_with(part, bytes, first, end, byte);
-            assert!(rt;
-                found == fault,
-                "{part:?} {bytes:?}, {byte} from {first} to {end}"
-            );
+// The first row that is read otherwise.
+fn other_read(reads: &[Read]) -> Option<usize> {
+    for i in 0..reads.len() {
+        let (part, bytes, first, end, byte, fault) = reads[i];
+        if fault_with(part, bytes, first, end, byte) != fault {
+            return Some(i);
         }
     }
+    None
+}
+
+#[test]
+fn wrong_bytes_are_refused(rt: HostRuntime) {
+    let wrong = [
+        other_read(&SUPER_READS),
+        other_read(&COMMIT_READS),
+        other_read(&FILE_READS),
+        other_read(&INODE_READS),
+        other_read(&SLOT_READS),
+        other_read(&ACL_READS),
+    ];
+    assert!(rt; wrong == [None; 6], "{wrong:?}");
 }
 
 // Whether a sector has a name of 248 bytes as this part, and it is read again.
@@ -524,16 +544,14 @@ fn is_long_slot(part: Part, sector: &[u8; 512]) -> bool {
 
 #[test]
 fn long_names_are_written_and_read(rt: HostRuntime) {
-    for (part, sector) in [
-        (Part::LongSlot, written_long_slot(LONG_NAME.as_slice(), 0)),
-        (
+    let seen = [
+        is_long_slot(Part::LongSlot, &written_long_slot(LONG_NAME.as_slice(), 0)),
+        is_long_slot(
             Part::NextLongSlot,
-            written_long_slot(LONG_NAME.as_slice(), 256),
+            &written_long_slot(LONG_NAME.as_slice(), 256),
         ),
-    ] {
-        let seen = is_long_slot(part, &sector);
-        assert!(rt; seen, "{part:?}");
-    }
+    ];
+    assert!(rt; seen == [true; 2], "{seen:?}");
 }
 
 // Where the parts of a disk begin: the bitmaps, the inode table and the data.
@@ -683,25 +701,42 @@ fn new_disk(version: Version, sectors: u32, inodes: u32) -> NewDisk {
     ))
 }
 
+fn starts_with(version: Version, header: u32, sectors: u32, inodes: u32) -> Option<Starts> {
+    let superblock = Super {
+        version,
+        sectors,
+        inodes,
+        header,
+    };
+    Some(starts_of(superblock.geometry()?))
+}
+
+// The first new disk that has another geometry.
+fn other_disk() -> Option<usize> {
+    for i in 0..NEW_DISKS.len() {
+        let row = NEW_DISKS[i];
+        if new_disk(row.0, row.1, row.2) != row.3 {
+            return Some(i);
+        }
+    }
+    None
+}
+
+// The first disk that has other starts.
+fn other_starts() -> Option<usize> {
+    for i in 0..PLACES.len() {
+        let row = PLACES[i];
+        if starts_with(row.0, row.1, row.2, row.3) != row.4 {
+            return Some(i);
+        }
+    }
+    None
+}
+
 #[test]
 fn geometries_are_as_the_format_says(rt: HostRuntime) {
-    for &(version, sectors, inodes, wanted) in &NEW_DISKS {
-        let found = new_disk(version, sectors, inodes);
-        assert!(rt; found == wanted, "{sectors} sectors and {inodes} inodes");
-    }
-    for &(version, header, sectors, inodes, starts) in &PLACES {
-        let superblock = Super {
-            version,
-            sectors,
-            inodes,
-            header,
-        };
-        let found = superblock.geometry().map(starts_of);
-        assert!(rt;
-            found == starts,
-            "{header} header sectors, {sectors} sectors and {inodes} inodes"
-        );
-    }
+    let wrong = (other_disk(), other_starts());
+    assert!(rt; wrong == (None, None), "{wrong:?}");
 }
 
 // Whether a commit with these targets is valid for a disk with a header sector or without one, and of so many sectors. With one the
@@ -733,12 +768,21 @@ fn is_valid(header: bool, targets: &[u32], sectors: u32) -> Option<bool> {
     })
 }
 
+// The first commit of which the other is found.
+fn other_commit() -> Option<usize> {
+    for i in 0..COMMITS.len() {
+        let row = COMMITS[i];
+        if is_valid(row.0, row.1, row.2) != Some(row.3) {
+            return Some(i);
+        }
+    }
+    None
+}
+
 #[test]
 fn commits_are_valid_for_a_disk(rt: HostRuntime) {
-    for &(header, targets, sectors, valid) in &COMMITS {
-        let found = is_valid(header, targets, sectors);
-        assert!(rt; found == Some(valid), "{targets:?} on {sectors} sectors");
-    }
+    let wrong = other_commit();
+    assert!(rt; wrong == None, "{wrong:?}");
 }
 
 static NAMES: [(&[u8], bool); 10] = [
@@ -754,9 +798,19 @@ static NAMES: [(&[u8], bool); 10] = [
     (&[b'a'; 249], false),
 ];
 
+// The first bytes that are a name and aren't to be, or the other way round.
+fn other_name() -> Option<usize> {
+    for i in 0..NAMES.len() {
+        let row = NAMES[i];
+        if is_name(row.0) != row.1 {
+            return Some(i);
+        }
+    }
+    None
+}
+
 #[test]
 fn names_are_as_the_format_says(rt: HostRuntime) {
-    for &(name, is) in &NAMES {
-        assert!(rt; is_name(name) == is, "{name:?}");
-    }
+    let wrong = other_name();
+    assert!(rt; wrong == None, "{wrong:?}");
 }

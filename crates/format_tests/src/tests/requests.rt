@@ -380,19 +380,26 @@ fn other_word(operation: &Operation<'_>) -> &'static str {
     }
 }
 
-#[test]
-fn requests_of_a_kernel(rt: HostRuntime) {
-    for rows in [
-        OF_NAMES.as_slice(),
-        OF_FILES.as_slice(),
-        OF_OTHERS.as_slice(),
-        UNKNOWN.as_slice(),
-    ] {
-        for &(text, header, said) in rows {
-            let seen = is_told(text, header, said);
-            assert!(rt; seen, "{text}");
+// The first row that is read otherwise.
+fn other_row(rows: &[Row]) -> Option<usize> {
+    for i in 0..rows.len() {
+        let (text, header, said) = rows[i];
+        if !is_told(text, header, said) {
+            return Some(i);
         }
     }
+    None
+}
+
+#[test]
+fn requests_of_a_kernel(rt: HostRuntime) {
+    let wrong = [
+        other_row(&OF_NAMES),
+        other_row(&OF_FILES),
+        other_row(&OF_OTHERS),
+        other_row(&UNKNOWN),
+    ];
+    assert!(rt; wrong == [None; 4], "{wrong:?}");
 }
 
 // Seconds and nanoseconds.
@@ -457,12 +464,20 @@ const CHANGES: [(&str, Changes); 5] = [
     ),
 ];
 
+// The first request of which other changes are read.
+fn other_changes() -> Option<usize> {
+    for i in 0..CHANGES.len() {
+        if changes_of(CHANGES[i].0) != Some(CHANGES[i].1) {
+            return Some(i);
+        }
+    }
+    None
+}
+
 #[test]
 fn changes_of_attributes(rt: HostRuntime) {
-    for (text, changes) in CHANGES {
-        let seen = changes_of(text);
-        assert!(rt; seen == Some(changes), "{text}");
-    }
+    let wrong = other_changes();
+    assert!(rt; wrong == None, "{wrong:?}");
 }
 
 // No refusal, or that of bytes that aren't whole, or the number of a request that isn't of the form.
@@ -528,16 +543,29 @@ static SIZES: [(u8, u8); 29] = [
     (50, 8),
 ];
 
+// What comes of a body of so many zeros, of one with a zero less, and of one of whose bytes the last is missing.
+fn outcomes_of_zeros(opcode: u8, size: u8) -> [Outcome; 3] {
+    [
+        outcome_of_zeros(opcode, size, 0),
+        outcome_of_zeros(opcode, size.saturating_sub(1), 0),
+        outcome_of_zeros(opcode, size, 1),
+    ]
+}
+
+// The first opcode of which a body of another size is read.
+fn other_size() -> Option<usize> {
+    for i in 0..SIZES.len() {
+        if outcomes_of_zeros(SIZES[i].0, SIZES[i].1) != [Ok(()), Err(Some(77)), Err(None)] {
+            return Some(i);
+        }
+    }
+    None
+}
+
 #[test]
 fn bodies_that_are_too_short(rt: HostRuntime) {
-    for &(opcode, size) in &SIZES {
-        let seen = [
-            outcome_of_zeros(opcode, size, 0),
-            outcome_of_zeros(opcode, size.saturating_sub(1), 0),
-            outcome_of_zeros(opcode, size, 1),
-        ];
-        assert!(rt; seen == [Ok(()), Err(Some(77)), Err(None)], "{opcode}");
-    }
+    let wrong = other_size();
+    assert!(rt; wrong == None, "{wrong:?}");
 }
 
 static OTHER_FORMS: [(&str, Outcome); 5] = [
@@ -566,10 +594,18 @@ static OTHER_FORMS: [(&str, Outcome); 5] = [
     ),
 ];
 
+// The first text of which something else is read.
+fn other_form() -> Option<usize> {
+    for i in 0..OTHER_FORMS.len() {
+        if outcome_of(OTHER_FORMS[i].0) != OTHER_FORMS[i].1 {
+            return Some(i);
+        }
+    }
+    None
+}
+
 #[test]
 fn bodies_of_other_forms(rt: HostRuntime) {
-    for &(text, wanted) in &OTHER_FORMS {
-        let seen = outcome_of(text);
-        assert!(rt; seen == wanted, "{text}");
-    }
+    let wrong = other_form();
+    assert!(rt; wrong == None, "{wrong:?}");
 }
