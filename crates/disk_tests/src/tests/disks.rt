@@ -5,9 +5,9 @@ ghost use Rattle.std.specs.Prelude.{◌≡◌, ◌≢◌, ◌<◌, ◌⊎◌, On
 ghost use Rattle.sector_disk.specs.Disk.{Image, sector, IsStable, HasCause, LeavesOnly, AddsOnly, IsImageOr};
 ghost use Rattle.disk_tests.specs.Writes.{IsContentOf, after_writes};
 
+use crate::tests::disks::Call::{Read, Sync, Write};
 use sector_disk::{CrashDisk, Disk, DiskFault, FailOnce, FaultyDisk, FuseDisk, MemDisk};
 use std::alloc::Global;
-use std::test::Fail;
 
 const OLD: [u8; 512] = [1; 512];
 
@@ -84,9 +84,9 @@ pub(super) enum Call {
 
 fn passes<D: Disk>(disk: &mut D, call: Call) -> bool {
     match call {
-        Call::Read(n) => first_byte(disk, n).is_ok(),
-        Call::Write(n, byte) => is_filled(disk, n, byte),
-        Call::Sync => disk.sync().is_ok(),
+        Read(n) => first_byte(disk, n).is_ok(),
+        Write(n, byte) => is_filled(disk, n, byte),
+        Sync => disk.sync().is_ok(),
     }
 }
 
@@ -142,34 +142,14 @@ fn stopped<D: CrashDisk>(
     Ok((passed, disk.failures(), first_bytes(disk)?))
 }
 
-const ONE_SECTOR: [Call; 4] = [
-    Call::Write(2, 1),
-    Call::Sync,
-    Call::Write(2, 2),
-    Call::Write(2, 3),
-];
+const ONE_SECTOR: [Call; 4] = [Write(2, 1), Sync, Write(2, 2), Write(2, 3)];
 
-const TWO_SECTORS: [Call; 4] = [
-    Call::Sync,
-    Call::Write(3, 2),
-    Call::Write(1, 1),
-    Call::Write(3, 3),
-];
+const TWO_SECTORS: [Call; 4] = [Sync, Write(3, 2), Write(1, 1), Write(3, 3)];
 
 // Zeros over a content, and a content over zeros.
-const ZEROS_BETWEEN: [Call; 4] = [
-    Call::Write(2, 1),
-    Call::Sync,
-    Call::Write(2, 0),
-    Call::Write(3, 1),
-];
+const ZEROS_BETWEEN: [Call; 4] = [Write(2, 1), Sync, Write(2, 0), Write(3, 1)];
 
-const SYNCED_BETWEEN: [Call; 4] = [
-    Call::Write(0, 1),
-    Call::Write(1, 1),
-    Call::Sync,
-    Call::Write(0, 3),
-];
+const SYNCED_BETWEEN: [Call; 4] = [Write(0, 1), Write(1, 1), Sync, Write(0, 3)];
 
 // What four calls and a stop leave on a new disk of four sectors.
 fn stopped_in_memory(
@@ -177,9 +157,9 @@ fn stopped_in_memory(
     armed: u64,
     calls: [Call; 4],
     choice: &[u8],
-) -> Result<([bool; 4], u64, [u8; 4]), Fail> {
-    let mut disk = MemDisk::new(alloc, 4)?;
-    Ok(stopped(&mut disk, armed, calls, choice)?)
+) -> Option<([bool; 4], u64, [u8; 4])> {
+    let mut disk = MemDisk::new(alloc, 4).ok()?;
+    stopped(&mut disk, armed, calls, choice).ok()
 }
 
 // How many writes and syncs pass, the choice, how often the disk has failed, and the first bytes.
@@ -224,104 +204,111 @@ static SYNCED_STOPPED: [Stop; 8] = [
     (3, &[1, 1], 1, [3, 1, 0, 0]),
 ];
 
-#[test]
-fn a_stop_leaves_what_its_choice_picks(rt: HostRuntime) -> Result<(), Fail> {
-    for (calls, stops) in [
-        (ONE_SECTOR, ONE_STOPPED.as_slice()),
-        (TWO_SECTORS, TWO_STOPPED.as_slice()),
-        (ZEROS_BETWEEN, ZEROS_STOPPED.as_slice()),
-        (SYNCED_BETWEEN, SYNCED_STOPPED.as_slice()),
-    ] {
-        for &(armed, choice, failures, found) in stops {
-            let seen = stopped_in_memory(rt.alloc(), armed, calls, choice)?;
-            let wanted = (
-                [armed > 0, armed > 1, armed > 2, armed > 3],
-                failures,
-                found,
-            );
-            assert!(rt; seen == wanted, "{armed} {choice:?} {found:?}");
+// Whether these calls leave what the row says.
+fn is_left(alloc: Global, calls: [Call; 4], stop: &Stop) -> bool {
+    let &(armed, choice, failures, found) = stop;
+    let passed = [armed > 0, armed > 1, armed > 2, armed > 3];
+    stopped_in_memory(alloc, armed, calls, choice) == Some((passed, failures, found))
+}
+
+// The first stop after these calls that leaves something else.
+fn other_stop(alloc: Global, calls: [Call; 4], stops: &[Stop]) -> Option<usize> {
+    for i in 0..stops.len() {
+        if !is_left(alloc, calls, &stops[i]) {
+            return Some(i);
         }
     }
-    Ok(())
+    None
+}
+
+#[test]
+fn a_stop_leaves_what_its_choice_picks(rt: HostRuntime) {
+    let wrong = [
+        other_stop(rt.alloc(), ONE_SECTOR, &ONE_STOPPED),
+        other_stop(rt.alloc(), TWO_SECTORS, &TWO_STOPPED),
+        other_stop(rt.alloc(), ZEROS_BETWEEN, &ZEROS_STOPPED),
+        other_stop(rt.alloc(), SYNCED_BETWEEN, &SYNCED_STOPPED),
+    ];
+    assert!(rt; wrong == [None; 4], "{wrong:?}");
 }
 
 // Which calls of a disk pass that fails by itself, how often it has failed, and what is in sector 0 of the disk below.
-type Through = ([bool; 4], u64, u8);
+type Through = ([bool; 4], u64, Result<u8, DiskFault>);
 
-fn through<D: Disk + Drop, const FAULTS: u64>(
-    faulty: FaultyDisk<D, FAULTS>,
-) -> Result<Through, DiskFault> {
+fn through<D: Disk + Drop, const FAULTS: u64>(faulty: FaultyDisk<D, FAULTS>) -> Through {
     let mut faulty = faulty;
-    let passed = four_calls(
-        &mut faulty,
-        [
-            Call::Write(0, 1),
-            Call::Read(0),
-            Call::Sync,
-            Call::Write(0, 3),
-        ],
-    );
+    let passed = four_calls(&mut faulty, [Write(0, 1), Read(0), Sync, Write(0, 3)]);
     let failures = faulty.failures();
     let mut disk = faulty.into_inner();
-    Ok((passed, failures, first_byte(&mut disk, 0)?))
+    (passed, failures, first_byte(&mut disk, 0))
 }
 
 // The calls through a fuse and through a disk of one fault, each over a new disk.
-fn through_both(alloc: Global, call: u64) -> Result<(Through, Through), Fail> {
-    let burnt = through(FuseDisk::new(MemDisk::new(alloc, 4)?, call))?;
-    let failed = through(FailOnce::new(MemDisk::new(alloc, 4)?, call))?;
-    Ok((burnt, failed))
+fn through_both(alloc: Global, call: u64) -> Option<[Through; 2]> {
+    let burnt = through(FuseDisk::new(MemDisk::new(alloc, 4).ok()?, call));
+    let failed = through(FailOnce::new(MemDisk::new(alloc, 4).ok()?, call));
+    Some([burnt, failed])
+}
+
+// Whether faults come at this call: how often a fuse has failed then, and what it and a disk of one fault leave.
+fn is_at(alloc: Global, (call, failures, burnt, once): (u64, u64, u8, u8)) -> bool {
+    let wanted = [
+        (
+            [call > 0, call > 1, call > 2, call > 3],
+            failures,
+            Ok(burnt),
+        ),
+        ([call != 0, call != 1, call != 2, call != 3], 1, Ok(once)),
+    ];
+    through_both(alloc, call) == Some(wanted)
 }
 
 #[test]
-fn faults_come_at_their_calls(rt: HostRuntime) -> Result<(), Fail> {
-    // The first call that fails, how often a fuse has failed then, and what it and a disk of one fault leave.
-    for (call, failures, burnt, once) in [(0, 4, 0, 3), (1, 3, 1, 3), (2, 2, 1, 3), (3, 1, 1, 1)] {
-        let seen = through_both(rt.alloc(), call)?;
-        let wanted = (
-            ([call > 0, call > 1, call > 2, call > 3], failures, burnt),
-            ([call != 0, call != 1, call != 2, call != 3], 1, once),
-        );
-        assert!(rt; seen == wanted, "{call}");
-    }
-    Ok(())
+fn faults_come_at_their_calls(rt: HostRuntime) {
+    let seen = [
+        is_at(rt.alloc(), (0, 4, 0, 3)),
+        is_at(rt.alloc(), (1, 3, 1, 3)),
+        is_at(rt.alloc(), (2, 2, 1, 3)),
+        is_at(rt.alloc(), (3, 1, 1, 1)),
+    ];
+    assert!(rt; seen == [true; 4], "{seen:?}");
 }
 
 // Whether each of the clients passes on a disk, and its first bytes then.
-type Ran = ((bool, bool), [u8; 4]);
+type Ran = (Result<(bool, bool), DiskFault>, Result<[u8; 4], DiskFault>);
 
-fn ran_in_memory(alloc: Global) -> Result<Ran, Fail> {
-    let mut disk = MemDisk::new(alloc, 4)?;
+fn ran_in_memory(alloc: Global) -> Option<Ran> {
+    let mut disk = MemDisk::new(alloc, 4).ok()?;
     let contents = [(3, MIDDLE), (1, NEW), (3, OLD)];
-    let passed = run_clients(&mut disk, 2, &NEW, 0, &OLD, &contents)?;
-    Ok((passed, first_bytes(&mut disk)?))
+    let passed = run_clients(&mut disk, 2, &NEW, 0, &OLD, &contents);
+    Some((passed, first_bytes(&mut disk)))
 }
 
-fn ran_with_fuse(alloc: Global) -> Result<Ran, Fail> {
-    let mut fuse = FuseDisk::new(MemDisk::new(alloc, 4)?, 4);
-    let passed = run_clients(&mut fuse, 1, &OLD, 3, &NEW, &[(2, MIDDLE)])?;
-    Ok((passed, first_bytes(&mut fuse.into_inner())?))
+fn ran_with_fuse(alloc: Global) -> Option<Ran> {
+    let mut fuse = FuseDisk::new(MemDisk::new(alloc, 4).ok()?, 4);
+    let passed = run_clients(&mut fuse, 1, &OLD, 3, &NEW, &[(2, MIDDLE)]);
+    let mut disk = fuse.into_inner();
+    Some((passed, first_bytes(&mut disk)))
 }
 
-fn ran_with_one_fault(alloc: Global) -> Result<Ran, Fail> {
-    let mut once = FailOnce::new(MemDisk::new(alloc, 4)?, 6);
+fn ran_with_one_fault(alloc: Global) -> Option<Ran> {
+    let mut once = FailOnce::new(MemDisk::new(alloc, 4).ok()?, 6);
     let contents = [(2, MIDDLE), (0, OLD), (1, NEW)];
-    let passed = run_clients(&mut once, 1, &OLD, 3, &NEW, &contents)?;
-    Ok((passed, first_bytes(&mut once)?))
+    let passed = run_clients(&mut once, 1, &OLD, 3, &NEW, &contents);
+    Some((passed, first_bytes(&mut once)))
 }
 
 #[test]
-fn clients_run_over_each_disk(rt: HostRuntime) -> Result<(), Fail> {
-    let seen = (
-        ran_in_memory(rt.alloc())?,
-        ran_with_fuse(rt.alloc())?,
-        ran_with_one_fault(rt.alloc())?,
-    );
-    let wanted = (
-        ((true, true), [1, 3, 3, 1]),
-        ((false, false), [0, 1, 0, 3]),
-        ((true, false), [0, 1, 2, 3]),
-    );
+fn clients_run_over_each_disk(rt: HostRuntime) {
+    let seen = [
+        ran_in_memory(rt.alloc()),
+        ran_with_fuse(rt.alloc()),
+        ran_with_one_fault(rt.alloc()),
+    ];
+    let wanted = [
+        Some((Ok((true, true)), Ok([1, 3, 3, 1]))),
+        Some((Ok((false, false)), Ok([0, 1, 0, 3]))),
+        Some((Ok((true, false)), Ok([0, 1, 2, 3]))),
+    ];
     assert!(rt; seen == wanted, "{seen:?}");
-    Ok(())
 }

@@ -6,7 +6,6 @@ use std::cell::Cell;
 use std::fs::{self, File, OpenOptions};
 use std::io::{self, ErrorKind};
 use std::path::{Path, PathBuf};
-use std::test::Fail;
 use std::{env, process};
 
 // A file that counts its locks, reads, writes and syncs, and fails so many of them from the one of this number on.
@@ -61,10 +60,11 @@ impl DiskFile for Flaky<'_> {
 }
 
 // A path of this process alone.
-fn scratch(rt: &HostRuntime, what: &str) -> Result<PathBuf, Fail> {
+fn scratch(rt: &HostRuntime, what: &str) -> Option<PathBuf> {
     let process = process::id(rt.process());
-    let name = format!(in rt.alloc(); "sector_disk-{process}-{what}")?;
-    Ok(env::temp_dir(rt)?.join(rt.alloc(), name.as_str())?)
+    let folder = env::temp_dir(rt).ok()?;
+    let name = format!(in rt.alloc(); "sector_disk-{process}-{what}").ok()?;
+    folder.join(rt.alloc(), name.as_str()).ok()
 }
 
 // How many sectors a disk has, and the first byte of each of the first three.
@@ -208,18 +208,17 @@ static STEPS: [(Step, Result<Seen, FileFault>); 14] = [
     (Step::Zeros(65_538 * 512), Ok((65_537, [0, 0, 0]))),
 ];
 
-fn first_wrong_step(rt: &HostRuntime) -> Result<Option<(usize, Result<Seen, FileFault>)>, Fail> {
+fn first_wrong_step(rt: &HostRuntime) -> Option<Option<(usize, Result<Seen, FileFault>)>> {
     let path = scratch(rt, "kept")?;
     let wrong = first_wrong(rt, path.as_path(), &STEPS);
     let _ = fs::remove_file(rt, path.as_path());
-    Ok(wrong)
+    Some(wrong)
 }
 
 #[test]
-fn a_file_keeps_its_sectors(rt: HostRuntime) -> Result<(), Fail> {
-    let wrong = first_wrong_step(&rt)?;
-    assert!(rt; wrong == None, "{wrong:?}");
-    Ok(())
+fn a_file_keeps_its_sectors(rt: HostRuntime) {
+    let wrong = first_wrong_step(&rt);
+    assert!(rt; wrong == Some(None), "{wrong:?}");
 }
 
 // Which calls of the disk in a failing file pass, how often it has failed, and what it has; and how many calls the file has
@@ -316,30 +315,37 @@ fn failed_as(row: Option<([bool; 4], u64, [u8; 3])>) -> Failed {
     }
 }
 
-fn refused_at_scratch(rt: &HostRuntime) -> Result<Result<Told, FileFault>, Fail> {
+fn refused_at_scratch(rt: &HostRuntime) -> Option<Result<Told, FileFault>> {
     let path = scratch(rt, "flaky")?;
     let seen = refused(rt, path.as_path());
     let _ = fs::remove_file(rt, path.as_path());
-    Ok(seen)
+    Some(seen)
 }
 
-fn fail_at_scratch(rt: &HostRuntime, first: u64, count: u64) -> Result<Failed, Fail> {
+fn fail_at_scratch(rt: &HostRuntime, first: u64, count: u64) -> Option<Failed> {
     let path = scratch(rt, "flaky")?;
     let seen = fail(rt, path.as_path(), first, count);
     let _ = fs::remove_file(rt, path.as_path());
-    Ok(seen)
+    Some(seen)
+}
+
+// The first row of which something else is told.
+fn other_failure(rt: &HostRuntime) -> Option<usize> {
+    for i in 0..FAILING.len() {
+        let (first, count, wanted) = FAILING[i];
+        if fail_at_scratch(rt, first, count) != Some(failed_as(wanted)) {
+            return Some(i);
+        }
+    }
+    None
 }
 
 #[test]
-fn a_failing_file_is_a_failing_disk(rt: HostRuntime) -> Result<(), Fail> {
+fn a_failing_file_is_a_failing_disk(rt: HostRuntime) {
     // Of a file whose lock is taken nothing but that is asked.
-    let seen = refused_at_scratch(&rt)?;
-    assert!(rt; seen == Ok((Err(FileFault::Failed), 1)), "{seen:?}");
-    for &(first, count, wanted) in &FAILING {
-        let seen = fail_at_scratch(&rt, first, count)?;
-        assert!(rt; seen == failed_as(wanted), "{first} {count} {seen:?}");
-    }
-    Ok(())
+    let taken = Some(Ok((Err(FileFault::Failed), 1)));
+    let seen = (refused_at_scratch(&rt), other_failure(&rt));
+    assert!(rt; seen == (taken, None), "{seen:?}");
 }
 
 // How many calls of the file of three sectors the calls of its disk take, its opening and a last sync included.
@@ -359,30 +365,41 @@ fn count_calls(rt: &HostRuntime, path: Path<'_>, writes: [(u32, u8); 3]) -> Resu
 fn count_calls_at_scratch(
     rt: &HostRuntime,
     writes: [(u32, u8); 3],
-) -> Result<Result<u64, FileFault>, Fail> {
+) -> Option<Result<u64, FileFault>> {
     let path = scratch(rt, "runs")?;
     let seen = count_calls(rt, path.as_path(), writes);
     let _ = fs::remove_file(rt, path.as_path());
-    Ok(seen)
+    Some(seen)
+}
+
+// Three writes, and how many calls they take: a lock, a sync and a read, the writes, and a sync. What a sector has already isn't
+// written.
+static NEIGHBOURS: [([(u32, u8); 3], u64); 8] = [
+    ([(0, 1), (1, 2), (2, 3)], 5),
+    ([(2, 1), (0, 2), (1, 3)], 5),
+    ([(1, 1), (1, 2), (1, 3)], 5),
+    ([(0, 1), (1, 2), (0, 3)], 5),
+    ([(2, 1), (0, 2), (2, 3)], 6),
+    ([(0, 0), (1, 0), (2, 0)], 4),
+    ([(0, 1), (0, 0), (2, 0)], 5),
+    ([(0, 0), (2, 1), (2, 1)], 5),
+];
+
+// The first writes that take another number of calls.
+fn other_count(rt: &HostRuntime) -> Option<usize> {
+    let rows = NEIGHBOURS;
+    for i in 0..rows.len() {
+        if count_calls_at_scratch(rt, rows[i].0) != Some(Ok(rows[i].1)) {
+            return Some(i);
+        }
+    }
+    None
 }
 
 #[test]
-fn neighbours_are_written_in_one_call(rt: HostRuntime) -> Result<(), Fail> {
-    // A lock, a sync and a read, the writes, and a sync. What a sector has already isn't written.
-    for (writes, wanted) in [
-        ([(0, 1), (1, 2), (2, 3)], 5),
-        ([(2, 1), (0, 2), (1, 3)], 5),
-        ([(1, 1), (1, 2), (1, 3)], 5),
-        ([(0, 1), (1, 2), (0, 3)], 5),
-        ([(2, 1), (0, 2), (2, 3)], 6),
-        ([(0, 0), (1, 0), (2, 0)], 4),
-        ([(0, 1), (0, 0), (2, 0)], 5),
-        ([(0, 0), (2, 1), (2, 1)], 5),
-    ] {
-        let seen = count_calls_at_scratch(&rt, writes)?;
-        assert!(rt; seen == Ok(wanted), "{writes:?} {seen:?}");
-    }
-    Ok(())
+fn neighbours_are_written_in_one_call(rt: HostRuntime) {
+    let wrong = other_count(&rt);
+    assert!(rt; wrong == None, "{wrong:?}");
 }
 
 // ---- files of which some sectors are loaded
@@ -422,11 +439,11 @@ fn load_part_of_three(rt: &HostRuntime, path: Path<'_>, load: &Load) -> Parted {
     load_part(rt, path, load)
 }
 
-fn load_at_scratch(rt: &HostRuntime, load: &Load) -> Result<Parted, Fail> {
+fn load_at_scratch(rt: &HostRuntime, load: &Load) -> Option<Parted> {
     let path = scratch(rt, "part")?;
     let seen = load_part_of_three(rt, path.as_path(), load);
     let _ = fs::remove_file(rt, path.as_path());
-    Ok(seen)
+    Some(seen)
 }
 
 // What is loaded; then what can be read, and how many calls fail. A sector behind the end of the file is left out.
@@ -476,21 +493,29 @@ fn refused_beside_part(rt: &HostRuntime, path: Path<'_>) -> Result<bool, FileFau
     Ok(refused)
 }
 
-fn refused_beside_part_at_scratch(rt: &HostRuntime) -> Result<Result<bool, FileFault>, Fail> {
+fn refused_beside_part_at_scratch(rt: &HostRuntime) -> Option<Result<bool, FileFault>> {
     let path = scratch(rt, "part")?;
     let seen = refused_beside_part(rt, path.as_path());
     let _ = fs::remove_file(rt, path.as_path());
-    Ok(seen)
+    Some(seen)
+}
+
+fn parted_as(bytes: [u8; 3], failures: u64) -> Parted {
+    Ok(((3, bytes), [false; 4], failures, (3, [7, 1, 3])))
+}
+
+// The first load that leaves something else to be read.
+fn other_load(rt: &HostRuntime) -> Option<usize> {
+    for i in 0..LOADS.len() {
+        if load_at_scratch(rt, &LOADS[i].0) != Some(parted_as(LOADS[i].1, LOADS[i].2)) {
+            return Some(i);
+        }
+    }
+    None
 }
 
 #[test]
-fn only_loaded_sectors_can_be_read(rt: HostRuntime) -> Result<(), Fail> {
-    let seen = refused_beside_part_at_scratch(&rt)?;
-    assert!(rt; seen == Ok(true), "{seen:?}");
-    for (load, bytes, failures) in &LOADS {
-        let seen = load_at_scratch(&rt, load)?;
-        let wanted = Ok(((3, *bytes), [false; 4], *failures, (3, [7, 1, 3])));
-        assert!(rt; seen == wanted, "{bytes:?} {seen:?}");
-    }
-    Ok(())
+fn only_loaded_sectors_can_be_read(rt: HostRuntime) {
+    let seen = (refused_beside_part_at_scratch(&rt), other_load(&rt));
+    assert!(rt; seen == (Some(Ok(true)), None), "{seen:?}");
 }

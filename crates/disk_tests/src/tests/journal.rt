@@ -9,7 +9,6 @@ use fs_layout::Commit;
 use redo_journal::{Batch, Journal, Logged, OpenFault, Sealed};
 use sector_disk::{CrashDisk, Disk, FailOnce, MemDisk};
 use std::alloc::{AllocError, Global};
-use std::test::Fail;
 
 // A disk of 512 zero sectors, but for a commit sector without targets that counts so many.
 fn disk_with(alloc: Global, count: u8) -> Result<MemDisk, AllocError>
@@ -174,47 +173,57 @@ fn bytes_after_stop<D: CrashDisk + Drop>(
 }
 
 // What is read after a stop within a commit of two sectors, on a new disk.
-fn two_after_stop(
-    alloc: Global,
-    passes: u64,
-    choice: &[u8],
-) -> Result<Option<(u8, u8)>, AllocError> {
-    let batch = batch_of(alloc, 2)?;
-    let disk = disk_with(alloc, 0)?;
-    Ok(bytes_after_stop(disk, &batch, passes, choice))
+fn two_after_stop(alloc: Global, passes: u64, choice: &[u8]) -> Option<(u8, u8)> {
+    let batch = batch_of(alloc, 2).ok()?;
+    match disk_with(alloc, 0) {
+        Ok(disk) => bytes_after_stop(disk, &batch, passes, choice),
+        Err(_) => None,
+    }
 }
 
 // What is read after such a stop for choices 0, choices 1, and two that begin with one of these and end with the other.
-fn two_after_stops(alloc: Global, passes: u64) -> Result<[Option<(u8, u8)>; 4], AllocError> {
-    Ok([
-        two_after_stop(alloc, passes, &[])?,
-        two_after_stop(alloc, passes, &[1, 1, 1])?,
-        two_after_stop(alloc, passes, &[0, 1])?,
-        two_after_stop(alloc, passes, &[1, 0])?,
-    ])
+fn two_after_stops(alloc: Global, passes: u64) -> [Option<(u8, u8)>; 4] {
+    [
+        two_after_stop(alloc, passes, &[]),
+        two_after_stop(alloc, passes, &[1, 1, 1]),
+        two_after_stop(alloc, passes, &[0, 1]),
+        two_after_stop(alloc, passes, &[1, 0]),
+    ]
+}
+
+// How many writes and syncs pass, and what is read for choices 0 and for choices 1.
+static STOPS: [(u64, (u8, u8), (u8, u8)); 11] = [
+    (0, (0, 0), (0, 0)),
+    (1, (0, 0), (0, 0)),
+    (2, (0, 0), (0, 0)),
+    (3, (0, 0), (7, 8)),
+    (4, (0, 0), (7, 8)),
+    (5, (7, 8), (7, 8)),
+    (6, (7, 8), (7, 8)),
+    (7, (7, 8), (7, 8)),
+    (8, (7, 8), (7, 8)),
+    (9, (7, 8), (7, 8)),
+    (10, (7, 8), (7, 8)),
+];
+
+fn is_left_so(alloc: Global, passes: u64, zeros: (u8, u8), ones: (u8, u8)) -> bool {
+    two_after_stops(alloc, passes) == [Some(zeros), Some(ones), Some(zeros), Some(ones)]
+}
+
+// The first row that is otherwise.
+fn other_stop(alloc: Global) -> Option<usize> {
+    for i in 0..STOPS.len() {
+        if !is_left_so(alloc, STOPS[i].0, STOPS[i].1, STOPS[i].2) {
+            return Some(i);
+        }
+    }
+    None
 }
 
 #[test]
-fn a_stop_leaves_the_batch_whole_or_not_at_all(rt: HostRuntime) -> Result<(), Fail> {
-    // How many writes and syncs pass, and what is read for choices 0 and for choices 1.
-    for (passes, zeros, ones) in [
-        (0, (0, 0), (0, 0)),
-        (1, (0, 0), (0, 0)),
-        (2, (0, 0), (0, 0)),
-        (3, (0, 0), (7, 8)),
-        (4, (0, 0), (7, 8)),
-        (5, (7, 8), (7, 8)),
-        (6, (7, 8), (7, 8)),
-        (7, (7, 8), (7, 8)),
-        (8, (7, 8), (7, 8)),
-        (9, (7, 8), (7, 8)),
-        (10, (7, 8), (7, 8)),
-    ] {
-        let found = two_after_stops(rt.alloc(), passes)?;
-        let wanted = [Some(zeros), Some(ones), Some(zeros), Some(ones)];
-        assert!(rt; found == wanted, "{passes} {found:?}");
-    }
-    Ok(())
+fn a_stop_leaves_the_batch_whole_or_not_at_all(rt: HostRuntime) {
+    let wrong = other_stop(rt.alloc());
+    assert!(rt; wrong == None, "{wrong:?}");
 }
 
 // What is read after a stop within a commit, and two openings that are stopped too.
@@ -242,10 +251,12 @@ fn two_after_openings(
     choice: &[u8],
     openings: (u64, u64),
     later: &[u8],
-) -> Result<Option<(u8, u8)>, AllocError> {
-    let batch = batch_of(alloc, 2)?;
-    let disk = disk_with(alloc, 0)?;
-    Ok(bytes_after_stops(disk, &batch, passes, choice, openings, later))
+) -> Option<(u8, u8)> {
+    let batch = batch_of(alloc, 2).ok()?;
+    match disk_with(alloc, 0) {
+        Ok(disk) => bytes_after_stops(disk, &batch, passes, choice, openings, later),
+        Err(_) => None,
+    }
 }
 
 // What is read so for four choices at the later stops.
@@ -254,13 +265,13 @@ fn four_after_openings(
     passes: u64,
     choice: &[u8],
     openings: (u64, u64),
-) -> Result<[Option<(u8, u8)>; 4], AllocError> {
-    Ok([
-        two_after_openings(alloc, passes, choice, openings, &[])?,
-        two_after_openings(alloc, passes, choice, openings, &[1, 1])?,
-        two_after_openings(alloc, passes, choice, openings, &[0, 1])?,
-        two_after_openings(alloc, passes, choice, openings, &[1, 0])?,
-    ])
+) -> [Option<(u8, u8)>; 4] {
+    [
+        two_after_openings(alloc, passes, choice, openings, &[]),
+        two_after_openings(alloc, passes, choice, openings, &[1, 1]),
+        two_after_openings(alloc, passes, choice, openings, &[0, 1]),
+        two_after_openings(alloc, passes, choice, openings, &[1, 0]),
+    ]
 }
 
 // How many writes and syncs of the commit pass, the choice at its stop, and what is read then.
@@ -273,16 +284,32 @@ static RECOVERIES: [(u64, &[u8], (u8, u8)); 6] = [
     (9, &[1], (7, 8)),
 ];
 
-#[test]
-fn a_stop_within_recovery_leaves_the_same(rt: HostRuntime) -> Result<(), Fail> {
-    for &(passes, choice, want) in &RECOVERIES {
-        for stops in 0..64 {
-            let openings = (stops / 8, stops % 8);
-            let found = four_after_openings(rt.alloc(), passes, choice, openings)?;
-            assert!(rt; found == [Some(want); 4], "{passes} {openings:?} {found:?}");
+// The first stops of two openings, as 8 times the one and the other, after which something else is read.
+fn other_openings(alloc: Global, passes: u64, choice: &[u8], want: (u8, u8)) -> Option<u64> {
+    for stops in 0..64 {
+        let found = four_after_openings(alloc, passes, choice, (stops / 8, stops % 8));
+        if found != [Some(want); 4] {
+            return Some(stops);
         }
     }
-    Ok(())
+    None
+}
+
+// The first row that is otherwise, and these stops.
+fn other_recovery(alloc: Global) -> Option<(usize, u64)> {
+    for i in 0..RECOVERIES.len() {
+        let (passes, choice, want) = RECOVERIES[i];
+        if let Some(stops) = other_openings(alloc, passes, choice, want) {
+            return Some((i, stops));
+        }
+    }
+    None
+}
+
+#[test]
+fn a_stop_within_recovery_leaves_the_same(rt: HostRuntime) {
+    let wrong = other_recovery(rt.alloc());
+    assert!(rt; wrong == None, "{wrong:?}");
 }
 
 // What is read once the disk is opened again, after a fault that kept it from that.
@@ -309,22 +336,29 @@ fn sealed_disk(alloc: Global, batch: &Batch) -> Option<MemDisk>
 }
 
 // What is read after a fault at this call of the recovery of two sectors.
-fn two_after_fault(alloc: Global, call: u64) -> Result<Option<(u8, u8)>, AllocError> {
-    let batch = batch_of(alloc, 2)?;
-    Ok(match sealed_disk(alloc, &batch) {
+fn two_after_fault(alloc: Global, call: u64) -> Option<(u8, u8)> {
+    let batch = batch_of(alloc, 2).ok()?;
+    match sealed_disk(alloc, &batch) {
         Some(disk) => bytes_after_fault(FailOnce::new(disk, call)),
         None => None,
-    })
+    }
+}
+
+// The first call at which a fault leaves something else. Recovery of two sectors makes a sync and two reads, two reads and writes, a
+// sync, a write and a sync.
+fn other_call(alloc: Global) -> Option<u64> {
+    for call in 0..10 {
+        if two_after_fault(alloc, call) != Some((7, 8)) {
+            return Some(call);
+        }
+    }
+    None
 }
 
 #[test]
-fn a_fault_within_recovery_loses_nothing(rt: HostRuntime) -> Result<(), Fail> {
-    // Recovery of two sectors makes a sync and two reads, two reads and writes, a sync, a write and a sync.
-    for call in 0..10 {
-        let found = two_after_fault(rt.alloc(), call)?;
-        assert!(rt; found == Some((7, 8)), "{call}");
-    }
-    Ok(())
+fn a_fault_within_recovery_loses_nothing(rt: HostRuntime) {
+    let wrong = other_call(rt.alloc());
+    assert!(rt; wrong == None, "{wrong:?}");
 }
 
 // Why a disk isn't opened of which so many writes and syncs pass, how often it has failed then, and byte 4 of its
@@ -348,17 +382,22 @@ fn refusal<D: CrashDisk + Drop>(disk: D, passes: u64) -> Option<(OpenFault, u64,
     }
 }
 
+// That of a new disk whose commit sector counts so many.
+fn refusal_with(alloc: Global, count: u8, passes: u64) -> Option<(OpenFault, u64, u8)> {
+    refusal(disk_with(alloc, count).ok()?, passes)
+}
+
 #[test]
-fn a_disk_that_is_not_opened_is_given_back(rt: HostRuntime) -> Result<(), Fail> {
-    // What the commit sector counts, and how many writes and syncs pass.
-    for (count, passes, want) in [
-        (127, 100, (OpenFault::BadCommitSector, 0, 127)),
-        (0, 0, (OpenFault::DiskFault, 1, 0)),
-    ] {
-        let found = refusal(disk_with(rt.alloc(), count)?, passes);
-        assert!(rt; found == Some(want), "{count} {passes}");
-    }
-    Ok(())
+fn a_disk_that_is_not_opened_is_given_back(rt: HostRuntime) {
+    let seen = [
+        refusal_with(rt.alloc(), 127, 100),
+        refusal_with(rt.alloc(), 0, 0),
+    ];
+    let wanted = [
+        Some((OpenFault::BadCommitSector, 0, 127)),
+        Some((OpenFault::DiskFault, 1, 0)),
+    ];
+    assert!(rt; seen == wanted, "{seen:?}");
 }
 
 // None of the writes and syncs of a commit fails where so many pass.
@@ -405,23 +444,28 @@ fn recovery_calls(alloc: Global, batch: &Batch) -> Option<u64>
 }
 
 // A batch's length, and both for it.
-fn calls_of(alloc: Global, length: u8) -> Result<(usize, Option<u64>, Option<u64>), AllocError> {
-    let batch = batch_of(alloc, length)?;
+fn calls_of(alloc: Global, length: u8) -> Option<(usize, Option<u64>, Option<u64>)> {
+    let batch = batch_of(alloc, length).ok()?;
     let commit = commit_calls(alloc, &batch);
-    Ok((batch.len(), commit, recovery_calls(alloc, &batch)))
+    Some((batch.len(), commit, recovery_calls(alloc, &batch)))
 }
 
 #[test]
-fn writes_and_syncs_are_counted(rt: HostRuntime) -> Result<(), Fail> {
+fn writes_and_syncs_are_counted(rt: HostRuntime) {
+    let seen = [
+        calls_of(rt.alloc(), 0),
+        calls_of(rt.alloc(), 1),
+        calls_of(rt.alloc(), 2),
+        calls_of(rt.alloc(), 126),
+    ];
     // The batch's length; the writes and syncs of its commit, and of opening where it is sealed.
-    for (length, commit, recovery) in [(0, 0, 1), (1, 8, 5), (2, 10, 6), (126, 258, 130)] {
-        let found = calls_of(rt.alloc(), length)?;
-        assert!(rt;
-            found == (usize::from(length), Some(commit), Some(recovery)),
-            "{found:?}"
-        );
-    }
-    Ok(())
+    let wanted = [
+        Some((0, Some(0), Some(1))),
+        Some((1, Some(8), Some(5))),
+        Some((2, Some(10), Some(6))),
+        Some((126, Some(258), Some(130))),
+    ];
+    assert!(rt; seen == wanted, "{seen:?}");
 }
 
 // What is read after a fault within a seal, once the disk is armed again.
@@ -446,16 +490,18 @@ fn bytes_after_arming<D: CrashDisk + Drop>(disk: D, batch: &Batch) -> Option<(u8
     }
 }
 
-fn two_after_arming(alloc: Global) -> Result<Option<(u8, u8)>, AllocError> {
-    let batch = batch_of(alloc, 2)?;
-    Ok(bytes_after_arming(disk_with(alloc, 0)?, &batch))
+fn two_after_arming(alloc: Global) -> Option<(u8, u8)> {
+    let batch = batch_of(alloc, 2).ok()?;
+    match disk_with(alloc, 0) {
+        Ok(disk) => bytes_after_arming(disk, &batch),
+        Err(_) => None,
+    }
 }
 
 #[test]
-fn a_broken_journal_can_be_armed(rt: HostRuntime) -> Result<(), Fail> {
-    let found = two_after_arming(rt.alloc())?;
+fn a_broken_journal_can_be_armed(rt: HostRuntime) {
+    let found = two_after_arming(rt.alloc());
     assert!(rt; found == Some((7, 8)), "{found:?}");
-    Ok(())
 }
 
 // The first and the last byte of what the batch has for a sector.
@@ -482,27 +528,36 @@ fn seen_of(batch: &Batch) -> Seen {
     (batch.is_empty(), batch.len(), last, contents_of(batch))
 }
 
-// A batch of two sectors of which the first is put again; the same once it has taken those of another of three, and once
-// it is cleared; and how many sectors the other one added.
-fn batch_seen(alloc: Global) -> Result<([Seen; 3], usize), Fail> {
-    let mut batch = batch_of(alloc, 2)?;
+// What a batch has once sector 200 is put, once it has taken the sectors of another one, and once it is cleared; and how many sectors
+// the other one added.
+fn changed(batch: &mut Batch, other: &Batch) -> ([Seen; 3], usize)
+    requires { batch.old.most ≡ 126 }
+{
     if batch.len() < 126 {
         batch.put(200, &[9; 512]);
     }
-    let first = seen_of(&batch);
-    let other = batch_of(alloc, 3)?;
-    let added = batch.added_by(&other);
-    if batch.len() + added <= 126 {
-        batch.absorb(&other);
+    let first = seen_of(batch);
+    let added = batch.added_by(other);
+    if added <= 126 {
+        if batch.len() <= 126 - added {
+            batch.absorb(other);
+        }
     }
-    let taken = seen_of(&batch);
+    let taken = seen_of(batch);
     batch.clear();
-    Ok(([first, taken, seen_of(&batch)], added))
+    ([first, taken, seen_of(batch)], added)
+}
+
+// That of a batch of two sectors, and another of three.
+fn batch_seen(alloc: Global) -> Option<([Seen; 3], usize)> {
+    let mut batch = batch_of(alloc, 2).ok()?;
+    let other = batch_of(alloc, 3).ok()?;
+    Some(changed(&mut batch, &other))
 }
 
 #[test]
-fn a_batch_is_a_map(rt: HostRuntime) -> Result<(), Fail> {
-    let found = batch_seen(rt.alloc())?;
+fn a_batch_is_a_map(rt: HostRuntime) {
+    let found = batch_seen(rt.alloc());
     let first = (false, 2, Some(201), [Some((9, 9)), Some((8, 8)), None]);
     let taken = (
         false,
@@ -511,6 +566,5 @@ fn a_batch_is_a_map(rt: HostRuntime) -> Result<(), Fail> {
         [Some((7, 7)), Some((8, 8)), Some((9, 9))],
     );
     let cleared = (true, 0, None, [None, None, None]);
-    assert!(rt; found == ([first, taken, cleared], 1), "{found:?}");
-    Ok(())
+    assert!(rt; found == Some(([first, taken, cleared], 1)), "{found:?}");
 }

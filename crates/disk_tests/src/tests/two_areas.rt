@@ -10,25 +10,45 @@ use fs_layout::{Commit, Super, Version};
 use redo_journal::{Batch, Journal, OpenFault};
 use sector_disk::{CrashDisk, Disk, MemDisk};
 use std::alloc::{AllocError, Global};
+use std::mem;
 
-// A disk of zero sectors, but for the superblock of a disk with a header sector, and a commit sector without targets in which this
-// is written as their number.
-fn disk_with(alloc: Global, number: [u8; 4]) -> Option<MemDisk> {
-    let mut disk = MemDisk::new(alloc, 2048).ok()?;
+// The superblock of a disk with a header sector.
+fn superblock() -> [u8; 512] {
+    let mut content = [0; 512];
     let superblock = Super {
         version: Version::Three,
         sectors: 2048,
         inodes: 64,
         header: 1,
     };
-    let mut content = [0; 512];
     superblock.write_to(&mut content, 0);
-    disk.write(0, &content).ok()?;
-    content = Commit::idle().to_sector();
+    content
+}
+
+// A commit sector without targets in which this is written as their number.
+fn commit_with(number: [u8; 4]) -> [u8; 512] {
+    let mut content = Commit::idle().to_sector();
     (&mut content[4..8]).copy_from_slice(&number);
-    disk.write(1, &content).ok()?;
-    disk.sync().ok()?;
-    Some(disk)
+    content
+}
+
+fn is_begun<D: Disk>(disk: &mut D, number: [u8; 4]) -> bool {
+    if disk.size() != 2048 {
+        return false;
+    }
+    disk.write(0, &superblock()).is_ok()
+        && disk.write(1, &commit_with(number)).is_ok()
+        && disk.sync().is_ok()
+}
+
+// A disk of zero sectors, but for these two.
+fn disk_with(alloc: Global, number: [u8; 4]) -> Option<MemDisk> {
+    let mut disk = MemDisk::new(alloc, 2048).ok()?;
+    if is_begun(&mut disk, number) {
+        Some(disk)
+    } else {
+        None
+    }
 }
 
 // So many sectors from one on, whose bytes are 7, 8 and so on.
@@ -133,30 +153,45 @@ fn stopped<D: CrashDisk + Drop>(
     let passed = disk.failures() == 0;
     disk.crash(choice);
     let mut disk = opened(disk)?.into_disk();
-    Some((passed, contents_of(&mut disk)?))
+    let contents = contents_of(&mut disk);
+    mem::drop(disk);
+    Some((passed, contents?))
+}
+
+// A journal of a new disk.
+fn before_first(alloc: Global) -> Option<Journal<MemDisk>>
+    ensures { IfSome result (λ journal. HasTwoAreas (⟦<MemDisk as Disk>⟧.state journal)) }
+{
+    opened(disk_with(alloc, [0; 4])?)
 }
 
 // What a stop leaves of the first commit of a new disk, of 200 sectors from 600 on.
 fn first_stopped(alloc: Global, passes: u64, choice: &[u8]) -> Option<(bool, (u8, u8))> {
-    let journal = opened(disk_with(alloc, [0; 4])?)?;
     let batch = batch_of(alloc, 600, 200).ok()?;
-    stopped(journal, &batch, passes, choice)
+    match before_first(alloc) {
+        Some(journal) => stopped(journal, &batch, passes, choice),
+        None => None,
+    }
 }
 
 // A journal after that commit.
 fn after_first(alloc: Global) -> Option<Journal<MemDisk>>
     ensures { IfSome result (λ journal. HasTwoAreas (⟦<MemDisk as Disk>⟧.state journal)) }
 {
-    let journal = opened(disk_with(alloc, [0; 4])?)?;
     let batch = batch_of(alloc, 600, 200).ok()?;
-    committed(journal, &batch)
+    match before_first(alloc) {
+        Some(journal) => committed(journal, &batch),
+        None => None,
+    }
 }
 
 // What a stop leaves of the commit after the first, of sector 900.
 fn second_stopped(alloc: Global, passes: u64, choice: &[u8]) -> Option<(bool, (u8, u8))> {
-    let journal = after_first(alloc)?;
     let batch = batch_of(alloc, 900, 1).ok()?;
-    stopped(journal, &batch, passes, choice)
+    match after_first(alloc) {
+        Some(journal) => stopped(journal, &batch, passes, choice),
+        None => None,
+    }
 }
 
 // What may be left of sector 1, and of the sectors behind it.
@@ -186,37 +221,65 @@ impl Calls {
     }
 }
 
-#[test]
-fn a_stop_leaves_one_commit_or_the_next(rt: HostRuntime) {
-    let first = Calls {
+// How many writes and syncs pass at the first stop within the first commit that leaves something else.
+fn other_stop_of_first(alloc: Global, choice: &[u8]) -> Option<u64> {
+    let calls = Calls {
         log: 202,
         seal: 2,
         install: 200,
     };
-    let second = Calls {
+    for passes in 0..406 {
+        let wanted = calls.wanted(passes, choice, (0, 0), (200, 0));
+        if first_stopped(alloc, passes, choice) != Some(wanted) {
+            return Some(passes);
+        }
+    }
+    None
+}
+
+// And within the second.
+fn other_stop_of_second(alloc: Global, choice: &[u8]) -> Option<u64> {
+    let calls = Calls {
         log: 2,
         seal: 2,
         install: 1,
     };
-    for choice in CHOICES {
-        for passes in 0..406 {
-            let found = first_stopped(rt.alloc(), passes, choice);
-            let wanted = first.wanted(passes, choice, (0, 0), (200, 0));
-            assert!(rt; found == Some(wanted), "{passes} {found:?}");
-        }
-        for passes in 0..7 {
-            let found = second_stopped(rt.alloc(), passes, choice);
-            let wanted = second.wanted(passes, choice, (200, 0), (200, 7));
-            assert!(rt; found == Some(wanted), "{passes} of the second, {found:?}");
+    for passes in 0..7 {
+        let wanted = calls.wanted(passes, choice, (200, 0), (200, 7));
+        if second_stopped(alloc, passes, choice) != Some(wanted) {
+            return Some(passes);
         }
     }
+    None
+}
+
+// The first choice for which that is so, and both.
+type Wrong = (usize, Option<u64>, Option<u64>);
+
+fn other_stop(alloc: Global) -> Option<Wrong> {
+    for i in 0..CHOICES.len() {
+        let first = other_stop_of_first(alloc, CHOICES[i]);
+        let second = other_stop_of_second(alloc, CHOICES[i]);
+        if (first, second) != (None, None) {
+            return Some((i, first, second));
+        }
+    }
+    None
+}
+
+#[test]
+fn a_stop_leaves_one_commit_or_the_next(rt: HostRuntime) {
+    let wrong = other_stop(rt.alloc());
+    assert!(rt; wrong == None, "{wrong:?}");
 }
 
 // A disk after both commits, and after the last is settled too.
 fn after_second(alloc: Global) -> Option<Journal<MemDisk>> {
-    let journal = after_first(alloc)?;
     let batch = batch_of(alloc, 900, 1).ok()?;
-    committed(journal, &batch)
+    match after_first(alloc) {
+        Some(journal) => committed(journal, &batch),
+        None => None,
+    }
 }
 
 fn settled(alloc: Global) -> Option<Journal<MemDisk>> {
@@ -272,18 +335,25 @@ fn is_written<D: Disk>(disk: &mut D, row: Row) -> bool {
     (&content[at.min(512)..]).starts_with(bytes)
 }
 
-// The first sector that doesn't have the bytes of its row; 0 where there is no disk.
-fn first_wrong<D: Disk + Drop>(journal: Option<Journal<D>>, rows: &[Row]) -> Option<u32> {
-    let Some(journal) = journal else {
-        return Some(0);
-    };
-    let mut disk = journal.into_disk();
+// The first sector that doesn't have the bytes of its row.
+fn other_sector<D: Disk>(disk: &mut D, rows: &[Row]) -> Option<u32> {
     for row in rows {
-        if !is_written(&mut disk, *row) {
+        if !is_written(disk, *row) {
             return Some(row.0);
         }
     }
     None
+}
+
+// That of a journal's disk; 0 where there is none.
+fn first_wrong<D: Disk + Drop>(journal: Option<Journal<D>>, rows: &[Row]) -> Option<u32> {
+    match journal {
+        Some(journal) => {
+            let mut disk = journal.into_disk();
+            other_sector(&mut disk, rows)
+        }
+        None => Some(0),
+    }
 }
 
 #[test]
@@ -310,14 +380,13 @@ fn refusal(alloc: Global, number: [u8; 4]) -> Option<OpenFault> {
 
 #[test]
 fn numbers_of_targets_are_refused(rt: HostRuntime) {
-    for (number, wanted) in [
-        ([0, 0, 0, 0], None),
-        ([0, 0, 0, 0x80], Some(OpenFault::BadCommitSector)),
-        ([1, 0, 0, 0x80], Some(OpenFault::BadCommitSector)),
-        ([254, 0, 0, 0], Some(OpenFault::BadCommitSector)),
-        ([255, 0, 0, 0], Some(OpenFault::BadCommitSector)),
-    ] {
-        let found = refusal(rt.alloc(), number);
-        assert!(rt; found == wanted, "{number:?} {found:?}");
-    }
+    let seen = [
+        refusal(rt.alloc(), [0, 0, 0, 0]),
+        refusal(rt.alloc(), [0, 0, 0, 0x80]),
+        refusal(rt.alloc(), [1, 0, 0, 0x80]),
+        refusal(rt.alloc(), [254, 0, 0, 0]),
+        refusal(rt.alloc(), [255, 0, 0, 0]),
+    ];
+    let bad = Some(OpenFault::BadCommitSector);
+    assert!(rt; seen == [None, bad, bad, bad, bad], "{seen:?}");
 }
