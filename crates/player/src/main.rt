@@ -15,6 +15,7 @@
 mod disks;
 mod requests;
 mod scripts;
+mod values;
 
 use crate::requests::recording::Recording;
 use crate::requests::sessions::play_sessions;

@@ -8,6 +8,7 @@ pub mod recording;
 mod replaying;
 pub mod sessions;
 
+use crate::values::value_after;
 use recording::Recording;
 use replaying::replay;
 use std::mem;
@@ -16,17 +17,12 @@ use std::mem;
 /// recorded.
 pub fn play(rt: &HostRuntime, name: &str, text: &str) -> anyhow::Result<Recording> {
     let recording = Recording::read(rt.alloc(), text)?;
-    match tell(rt, name, &recording) {
-        Ok(()) => Ok(recording),
-        Err(fault) => {
-            mem::drop(recording);
-            Err(fault)
-        }
-    }
+    value_after(tell(rt, name, &recording), recording)
 }
 
 fn tell(rt: &HostRuntime, name: &str, recording: &Recording) -> anyhow::Result<()> {
     let told = replay(rt.alloc(), name, recording)?;
-    print!(rt; "{told}")?;
-    Ok(())
+    let printed = print!(rt; "{told}");
+    mem::drop(told);
+    Ok(printed?)
 }

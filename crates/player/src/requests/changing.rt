@@ -95,9 +95,10 @@ fn change_length(chance: &mut Chance, request: &mut Vec<u8>) -> Result<(), Alloc
 
 // Puts the lowest bytes of a number there.
 fn put(request: &mut [u8], dentry: u64, size: usize, number: u64) {
-    let places = request.iter_mut().skip(dentry as usize).take(size);
-    for (byte, new) in places.zip(number.to_le_bytes()) {
-        *byte = new;
+    let mut rest = number;
+    for byte in request.iter_mut().skip(dentry as usize).take(size) {
+        *byte = (rest % 256) as u8;
+        rest /= 256;
     }
 }
 

@@ -4,10 +4,9 @@ use anyhow::{anyhow, bail};
 use fs_check::{Summary, check};
 use fs_cred::{Errno, Refusal};
 use fs_layout::ROOT;
-use fs_lines::reply_text;
-use fs_model::{AclType, Call, Flags, Listing, Named, Path, Reply};
+use fs_lines::{Line, parse_line, reply_text};
+use fs_model::{Call, Event, Listing, Named, Path, Reply};
 use fs_system::Fs;
-use posix_acl::Acl;
 use sector_disk::MemDisk;
 use std::alloc::{AllocError, Global};
 use std::mem;
@@ -23,18 +22,6 @@ const MAX_DESCRIPTORS: usize = 32;
 
 // More than there are names.
 const MOST_STEPS: u32 = 100_000;
-
-// What is read in a directory.
-const LISTED: Flags = Flags {
-    read: true,
-    write: false,
-    create: false,
-    excl: false,
-    trunc: false,
-    append: false,
-    nofollow: false,
-    directory: true,
-};
 
 // What a reply tells those who look.
 #[derive(Clone, Copy)]
@@ -93,8 +80,20 @@ fn path(alloc: Global, bytes: &[u8]) -> Result<Path, AllocError> {
 // The reply to a call.
 fn asked(fs: &mut Fs<MemDisk>, pid: usize, call: Call) -> Reply {
     let reply = fs.serve_call(pid, &call);
-    mem::drop(call);
+    call.discard();
     reply
+}
+
+// The call of a line.
+fn call_of(alloc: Global, line: &str) -> anyhow::Result<Call> {
+    match parse_line(alloc, line.as_bytes()) {
+        Ok(Line::Event(Event::Call(_, call))) => Ok(call),
+        Ok(Line::Event(event)) => {
+            event.discard();
+            bail!("{line}")
+        }
+        Ok(Line::Blank) | Err(_) => bail!("{line}"),
+    }
 }
 
 fn answer_in(reply: &Reply) -> Answer {
@@ -108,7 +107,7 @@ fn answer_in(reply: &Reply) -> Answer {
 
 fn text_of(alloc: Global, reply: Reply) -> Result<String, AllocError> {
     let text = reply_text(alloc, &reply);
-    mem::drop(reply);
+    reply.discard();
     text
 }
 
@@ -121,19 +120,10 @@ fn unexpected(alloc: Global, asked: &str, reply: Reply) -> anyhow::Error {
 
 // Lets everybody search the root.
 fn open_root(alloc: Global, fs: &mut Fs<MemDisk>) -> anyhow::Result<()> {
-    let acl = everything(alloc)?;
-    let call = Call::SetAcl(path(alloc, b"/")?, AclType::Access, Some(acl));
+    let call = call_of(alloc, "1 setacl / access u::rwx,g::rwx,o::rwx")?;
     match asked(fs, SERVER_PROCESS, call) {
         Reply::Done => Ok(()),
         other => Err(unexpected(alloc, "setacl", other)),
-    }
-}
-
-// The ACL that permits everything to everybody.
-fn everything(alloc: Global) -> anyhow::Result<Acl> {
-    match Acl::from_mode(alloc, 511) {
-        Ok(acl) => Ok(acl),
-        Err(_) => bail!("no memory"),
     }
 }
 
@@ -143,7 +133,7 @@ fn find_at_root(alloc: Global, fs: &mut Fs<MemDisk>, pid: usize) -> anyhow::Resu
     let reply = asked(fs, pid, call);
     match answer_in(&reply) {
         Answer::AtRoot | Answer::Failed(Errno::ESRCH) => {
-            mem::drop(reply);
+            reply.discard();
             Ok(())
         }
         _ => {
@@ -160,7 +150,7 @@ fn close_all(fs: &mut Fs<MemDisk>, pid: usize) {
 }
 
 fn close(fs: &mut Fs<MemDisk>, pid: usize, fd: usize) {
-    mem::drop(asked(fs, pid, Call::Close(fd)));
+    asked(fs, pid, Call::Close(fd)).discard();
 }
 
 // Removes all that has a name.
@@ -208,7 +198,7 @@ fn remove_first(alloc: Global, fs: &mut Fs<MemDisk>, above: &mut Vec<u32>) -> an
 
 // Opens the directory that the server process stands in.
 fn open_here(alloc: Global, fs: &mut Fs<MemDisk>) -> anyhow::Result<usize> {
-    let call = Call::Open(path(alloc, b".")?, LISTED, 0);
+    let call = call_of(alloc, "1 open . rd")?;
     match asked(fs, SERVER_PROCESS, call) {
         Reply::Fd(fd) => Ok(fd),
         other => Err(unexpected(alloc, "open", other)),
@@ -248,7 +238,7 @@ fn remove(alloc: Global, fs: &mut Fs<MemDisk>, named: &Named) -> anyhow::Result<
     let reply = asked(fs, SERVER_PROCESS, call);
     match answer_in(&reply) {
         Answer::Failed(Errno::ENOTDIR) => {
-            mem::drop(reply);
+            reply.discard();
             unlink(alloc, fs, named)
         }
         _ => is_removed(alloc, reply),
@@ -266,6 +256,6 @@ fn is_removed(alloc: Global, reply: Reply) -> anyhow::Result<bool> {
         Answer::Failed(Errno::ENOTEMPTY) => false,
         _ => return Err(unexpected(alloc, "remove", reply)),
     };
-    mem::drop(reply);
+    reply.discard();
     Ok(is_done)
 }

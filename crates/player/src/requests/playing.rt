@@ -11,7 +11,7 @@ use fuse_protocol::Time;
 use fuse_serving::{Kernel, Nobody, ReplyRoom, ServeFault};
 use fuse_state::{Keeping, Settings};
 use sector_disk::MemDisk;
-use std::alloc::Global;
+use std::alloc::{AllocError, Global};
 use std::mem;
 
 // The largest request: one that writes 131,072 bytes.
@@ -24,20 +24,36 @@ pub fn serve_new<K: Kernel>(
     max_write: u32,
     kernel: &mut K,
 ) -> anyhow::Result<(Result<(), ServeFault>, Fs<MemDisk>)> {
-    let mut buffer = Vec::new(alloc);
-    buffer.resize(REQUEST_ROOM, 0)?;
-    let mut room = ReplyRoom::new(alloc)?;
-    let (fs, settings) = new_mounted(alloc, start, max_write)?;
-    let served = serve_requests(
-        alloc,
-        fs,
-        settings,
-        kernel,
-        &mut Nobody,
-        &mut buffer,
-        &mut room,
-    );
-    Ok(served)
+    let mut rooms = Rooms::new(alloc)?;
+    let served = match new_mounted(alloc, start, max_write) {
+        Ok((fs, settings)) => Ok(serve_requests(
+            alloc,
+            fs,
+            settings,
+            kernel,
+            &mut Nobody,
+            &mut rooms.buffer,
+            &mut rooms.reply,
+        )),
+        Err(fault) => Err(fault),
+    };
+    mem::drop(rooms);
+    served
+}
+
+// The room for a request, and for a reply.
+#[derive(Drop)]
+struct Rooms {
+    buffer: Vec<u8>,
+    reply: ReplyRoom,
+}
+
+impl Rooms {
+    fn new(alloc: Global) -> Result<Rooms, AllocError> {
+        let reply = ReplyRoom::new(alloc)?;
+        let buffer = vec![in alloc; 0; REQUEST_ROOM]?;
+        Ok(Rooms { buffer, reply })
+    }
 }
 
 // A new file system, and what is shown of it.

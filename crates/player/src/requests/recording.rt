@@ -11,8 +11,10 @@
 //! bytes of the request; and those of the reply, `-` for none. Bytes are two digits each, and `78*4096` between dots stands for
 //! so many of the same.
 
+use crate::values::value_after;
 use anyhow::{anyhow, bail};
-use std::alloc::Global;
+use std::alloc::{AllocError, Global};
+use std::mem;
 
 /// A recording.
 #[derive(Drop)]
@@ -36,47 +38,67 @@ pub struct Exchange {
     pub reply: Vec<u8>,
 }
 
+/// When an exchange was recorded, in seconds; 0 where there is none.
+pub fn seconds_of(exchange: Option<&Exchange>) -> u64 {
+    match exchange {
+        Some(exchange) => exchange.now,
+        None => 0,
+    }
+}
+
 impl Recording {
     /// The recording of a file.
     pub fn read(alloc: Global, text: &str) -> anyhow::Result<Recording> {
-        let mut lines = text.split_terminator('\n');
-        let (start, max_write) = read_head(lines.next().unwrap_or(""))?;
+        let head = text.split_terminator('\n').next().unwrap_or("");
+        let (start, max_write) = read_head(head)?;
         let mut recording = Recording {
             start,
             max_write,
             exchanges: Vec::new(alloc),
         };
-        for line in lines {
-            recording.exchanges.push(Exchange::read(alloc, line)?)?;
+        value_after(recording.add_all(alloc, text), recording)
+    }
+
+    // Adds the requests below the first line.
+    fn add_all(&mut self, alloc: Global, text: &str) -> anyhow::Result<()> {
+        for line in text.split_terminator('\n').skip(1) {
+            self.exchanges.push(Exchange::read(alloc, line)?)?;
         }
-        Ok(recording)
+        Ok(())
     }
 }
 
 fn read_head(line: &str) -> anyhow::Result<(u64, u32)> {
-    let Some(words) = line.strip_prefix("start ") else {
-        bail!("first line {line}");
-    };
-    let Some((start, max_write)) = words.split_once(" max_write ") else {
-        bail!("first line {line}");
-    };
-    Ok((start.parse::<u64>()?, max_write.parse::<u32>()?))
+    match head_words(line) {
+        Some((start, max_write)) => Ok((start.parse::<u64>()?, max_write.parse::<u32>()?)),
+        None => bail!("first line {line}"),
+    }
+}
+
+fn head_words(line: &str) -> Option<(&str, &str)> {
+    line.strip_prefix("start ")?.split_once(" max_write ")
 }
 
 impl Exchange {
     fn read(alloc: Global, line: &str) -> anyhow::Result<Exchange> {
+        let mut exchange = Exchange {
+            now: 0,
+            groups: None,
+            request: Vec::new(alloc),
+            reply: Vec::new(alloc),
+        };
+        value_after(exchange.take(alloc, line), exchange)
+    }
+
+    // Takes what stands in a line.
+    fn take(&mut self, alloc: Global, line: &str) -> anyhow::Result<()> {
         let (now, words) = halves(line)?;
         let (groups, words) = halves(words)?;
         let (request, reply) = halves(words)?;
-        let now = now.parse::<u64>()?;
-        let groups = read_groups(alloc, groups)?;
-        let (request, reply) = read_both(alloc, request, reply)?;
-        Ok(Exchange {
-            now,
-            groups,
-            request,
-            reply,
-        })
+        self.now = now.parse::<u64>()?;
+        self.groups = read_groups(alloc, groups)?;
+        push_bytes(alloc, &mut self.request, request)?;
+        push_bytes(alloc, &mut self.reply, reply)
     }
 }
 
@@ -88,33 +110,30 @@ fn halves(words: &str) -> anyhow::Result<(&str, &str)> {
     }
 }
 
-// The bytes of a request, and those of its reply.
-fn read_both(alloc: Global, request: &str, reply: &str) -> anyhow::Result<(Vec<u8>, Vec<u8>)> {
-    let request = read_bytes(alloc, request)?;
-    Ok((request, read_bytes(alloc, reply)?))
-}
-
 fn read_groups(alloc: Global, word: &str) -> anyhow::Result<Option<Vec<u32>>> {
     if word == "unknown" {
         return Ok(None);
     }
     let mut groups = Vec::new(alloc);
+    Ok(Some(value_after(push_groups(&mut groups, word), groups)?))
+}
+
+fn push_groups(groups: &mut Vec<u32>, word: &str) -> anyhow::Result<()> {
     if word != "-" {
         for group in word.split(',') {
             groups.push(group.parse::<u32>()?)?;
         }
     }
-    Ok(Some(groups))
+    Ok(())
 }
 
-fn read_bytes(alloc: Global, word: &str) -> anyhow::Result<Vec<u8>> {
-    let mut bytes = Vec::new(alloc);
+fn push_bytes(alloc: Global, bytes: &mut Vec<u8>, word: &str) -> anyhow::Result<()> {
     if word != "-" {
         for part in word.split('.') {
-            push_part(alloc, &mut bytes, part)?;
+            push_part(alloc, bytes, part)?;
         }
     }
-    Ok(bytes)
+    Ok(())
 }
 
 // Adds the bytes of a part.
@@ -124,8 +143,14 @@ fn push_part(alloc: Global, bytes: &mut Vec<u8>, part: &str) -> anyhow::Result<(
         None => (part, 1),
     };
     let some = hex::decode(alloc, digits)?;
+    let pushed = push_times(bytes, &some, count);
+    mem::drop(some);
+    Ok(pushed?)
+}
+
+fn push_times(bytes: &mut Vec<u8>, some: &[u8], count: u32) -> Result<(), AllocError> {
     for _ in 0..count {
-        bytes.extend_from_slice(&some)?;
+        bytes.extend_from_slice(some)?;
     }
     Ok(())
 }

@@ -1,7 +1,8 @@
 //! Plays a recording, and compares the replies.
 
 use crate::requests::playing::{put_request, serve_new};
-use crate::requests::recording::{Exchange, Recording};
+use crate::requests::recording::{Exchange, Recording, seconds_of};
+use crate::values::value_after;
 use bitflags::Flags;
 use fs_cred::Caps;
 use fuse_protocol::Time;
@@ -44,8 +45,7 @@ pub fn replay<'a>(
     let played = play(alloc, recording, &mut kernel);
     let Recorded { written, told, .. } = kernel;
     mem::drop(written);
-    played?;
-    Ok(told)
+    value_after(played, told)
 }
 
 fn play(alloc: Global, recording: &Recording, kernel: &mut Recorded<'_>) -> anyhow::Result<()> {
@@ -132,12 +132,8 @@ impl<'a> Kernel for Recorded<'a> {
     }
 
     fn now(&mut self) -> io::Result<Time> {
-        let seconds = match self.present {
-            Some(exchange) => exchange.now,
-            None => 0,
-        };
         Ok(Time {
-            seconds,
+            seconds: seconds_of(self.present),
             nanoseconds: 0,
         })
     }

@@ -4,7 +4,7 @@ use crate::requests::chance::Chance;
 use crate::requests::changing::{change, has_to_end, is_reply_to};
 use crate::requests::leaving::look_after;
 use crate::requests::playing::{put_request, serve_new};
-use crate::requests::recording::{Exchange, Recording};
+use crate::requests::recording::{Exchange, Recording, seconds_of};
 use crate::requests::replaying::groups_of;
 use anyhow::bail;
 use bitflags::Flags;
@@ -225,12 +225,8 @@ impl<'a> Kernel for Changing<'a> {
     }
 
     fn now(&mut self) -> io::Result<Time> {
-        let seconds = match self.present {
-            Some(exchange) => exchange.now,
-            None => 0,
-        };
         Ok(Time {
-            seconds,
+            seconds: seconds_of(self.present),
             nanoseconds: self.chance.small(1_000_000_000),
         })
     }

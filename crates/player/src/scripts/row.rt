@@ -22,10 +22,7 @@ pub fn push_row(text: &mut String, fill: &Fill<'_>, row: &str) -> Result<(), All
 // How many rows a row makes, and what stands in them.
 fn repeated(row: &str) -> Option<(u32, &str)> {
     let (count, pattern) = row.split_once("* ")?;
-    match count.parse::<u32>() {
-        Ok(count) => Some((count, pattern)),
-        Err(_) => None,
-    }
+    Some((count.parse::<u32>().ok()?, pattern))
 }
 
 fn push_repeated(text: &mut String, pattern: &str, count: u32) -> Result<(), AllocError> {
@@ -37,47 +34,77 @@ fn push_repeated(text: &mut String, pattern: &str, count: u32) -> Result<(), All
 
 // Adds a pattern with this number, and the next one, in it.
 fn push_numbered(text: &mut String, pattern: &str, number: u32) -> Result<(), AllocError> {
-    let next = u64::from(number) + 1;
     for letter in pattern.chars() {
-        match letter {
-            '#' => write!(text, "{number}")?,
-            '+' => write!(text, "{next}")?,
-            _ => text.push(letter)?,
-        }
+        push_letter(text, letter, number)?;
     }
     text.push('\n')
+}
+
+// Adds what a letter of a pattern stands for.
+fn push_letter(text: &mut String, letter: char, number: u32) -> Result<(), AllocError> {
+    let next = u64::from(number) + 1;
+    match letter {
+        '#' => write!(text, "{number}"),
+        '+' => write!(text, "{next}"),
+        _ => text.push(letter),
+    }
 }
 
 // Adds a row with what its braces stand for.
 fn push_filled(text: &mut String, fill: &Fill<'_>, row: &str) -> Result<(), AllocError> {
-    let mut pieces = row.split('{');
-    text.push_str(pieces.next().unwrap_or(""))?;
-    for piece in pieces {
-        push_piece(text, fill, piece)?;
+    for (i, piece) in row.split('{').enumerate() {
+        push_piece(text, fill, i > 0, piece)?;
     }
     text.push('\n')
 }
 
-// Adds what stands behind a brace.
-fn push_piece(text: &mut String, fill: &Fill<'_>, piece: &str) -> Result<(), AllocError> {
-    let Some((inside, after)) = piece.split_once('}') else {
-        text.push('{')?;
-        return text.push_str(piece);
-    };
-    push_inside(text, fill, inside)?;
-    text.push_str(after)
+// Adds a piece of a row, which may stand behind a brace.
+fn push_piece(
+    text: &mut String,
+    fill: &Fill<'_>,
+    is_behind: bool,
+    piece: &str,
+) -> Result<(), AllocError> {
+    match piece.split_once('}') {
+        Some((inside, after)) if is_behind => {
+            push_inside(text, fill, inside)?;
+            text.push_str(after)
+        }
+        _ => {
+            let brace = if is_behind { "{" } else { "" };
+            write!(text, "{brace}{piece}")
+        }
+    }
 }
 
 fn push_inside(text: &mut String, fill: &Fill<'_>, inside: &str) -> Result<(), AllocError> {
-    for (name, number) in [fill.outer, fill.inner] {
-        if inside == name {
-            return write!(text, "{number}");
-        }
-        if inside.strip_suffix('+') == Some(name) {
-            let next = number.saturating_add(1);
-            return write!(text, "{next}");
-        }
+    match fill.number_of(inside) {
+        Some(number) => write!(text, "{number}"),
+        None => push_other(text, inside),
     }
+}
+
+impl Fill<'_> {
+    // The number that a name stands for.
+    fn number_of(&self, name: &str) -> Option<u64> {
+        number_by(self.outer, name).or(number_by(self.inner, name))
+    }
+}
+
+// The number that stands for its own name, and the next one, which stands for that name with a `+`.
+fn number_by(named: (&str, u64), name: &str) -> Option<u64> {
+    let (own, number) = named;
+    if name == own {
+        Some(number)
+    } else if name.strip_suffix('+') == Some(own) {
+        Some(number.saturating_add(1))
+    } else {
+        None
+    }
+}
+
+// Adds what is no name: a piece so many times, or the text as it stands.
+fn push_other(text: &mut String, inside: &str) -> Result<(), AllocError> {
     match times(inside) {
         Some((piece, count)) => push_times(text, piece, count),
         None => write!(text, "{{{inside}}}"),
@@ -87,10 +114,7 @@ fn push_inside(text: &mut String, fill: &Fill<'_>, inside: &str) -> Result<(), A
 // A piece of text, and how often it stands there.
 fn times(inside: &str) -> Option<(&str, u32)> {
     let (piece, count) = inside.rsplit_once('*')?;
-    match count.parse::<u32>() {
-        Ok(count) => Some((piece, count)),
-        Err(_) => None,
-    }
+    Some((piece, count.parse::<u32>().ok()?))
 }
 
 fn push_times(text: &mut String, piece: &str, count: u32) -> Result<(), AllocError> {

@@ -22,10 +22,12 @@
 //!   are its replies: a restart picks in each sector what has the number CHOICE of what may stand there.
 
 use crate::scripts::row::{Fill, push_row};
+use crate::values::value_after;
 use anyhow::bail;
 use fs_layout::Version;
-use std::alloc::Global;
+use std::alloc::{AllocError, Global};
 use std::mem;
+use std::num::ParseIntError;
 
 /// Numbers that a script is run for.
 #[derive(Clone, Copy)]
@@ -94,13 +96,13 @@ pub struct Rows {
 
 impl<'a> Numbers<'a> {
     fn read(words: &'a str) -> anyhow::Result<Numbers<'a>> {
-        let Some((name, range)) = words.split_once(' ') else {
-            bail!("for {words}");
-        };
-        let Some((first, last)) = range.split_once(' ') else {
-            bail!("for {words}");
-        };
-        let first = first.parse::<u64>()?;
+        match number_words(words) {
+            Some((name, first, last)) => Numbers::between(name, first.parse::<u64>()?, last),
+            None => bail!("for {words}"),
+        }
+    }
+
+    fn between(name: &'a str, first: u64, last: &str) -> anyhow::Result<Numbers<'a>> {
         let ends = last == "up";
         let last = if ends {
             first.saturating_add(MOST_NUMBERS)
@@ -116,6 +118,13 @@ impl<'a> Numbers<'a> {
     }
 }
 
+// The name of some numbers, the first, and the last.
+fn number_words(words: &str) -> Option<(&str, &str, &str)> {
+    let (name, range) = words.split_once(' ')?;
+    let (first, last) = range.split_once(' ')?;
+    Some((name, first, last))
+}
+
 impl<'a> Script<'a> {
     /// The script of a title and what stands below it, in a file with this above its first title.
     pub fn read(alloc: Global, head: &'a str, text: &'a str) -> anyhow::Result<Script<'a>> {
@@ -127,22 +136,21 @@ impl<'a> Script<'a> {
             disk: DiskLine::Made(Version::Two),
             rows: Vec::new(alloc),
         };
-        match script.add_all(head, below) {
-            Ok(()) => Ok(script),
-            Err(fault) => {
-                mem::drop(script);
-                Err(fault)
-            }
-        }
+        value_after(script.add_all(head, below), script)
     }
 
     // Adds the rows above the first title, and the lines below its own.
     fn add_all(&mut self, head: &'a str, below: &'a str) -> anyhow::Result<()> {
-        for row in head.split_terminator('\n') {
-            self.rows.push(row)?;
-        }
+        self.add_rows(head)?;
         for line in below.split_terminator('\n') {
             self.add(line)?;
+        }
+        Ok(())
+    }
+
+    fn add_rows(&mut self, head: &'a str) -> Result<(), AllocError> {
+        for row in head.split_terminator('\n') {
+            self.rows.push(row)?;
         }
         Ok(())
     }
@@ -174,61 +182,66 @@ impl<'a> Script<'a> {
             lines: String::new(alloc),
             replies: Vec::new(alloc),
         };
-        match rows.add_all(alloc, &fill, &self.rows) {
-            Ok(()) => Ok(rows),
-            Err(fault) => {
-                mem::drop(rows);
-                Err(fault)
-            }
-        }
+        Ok(value_after(rows.add_all(alloc, &fill, &self.rows), rows)?)
     }
 }
 
 fn new_disk(alloc: Global, fill: &Fill<'_>, disk: DiskLine<'_>) -> anyhow::Result<NewDisk> {
     Ok(match disk {
         DiskLine::Made(version) => NewDisk::Made(version),
-        DiskLine::FailsAt(call) => NewDisk::FailsAt(
-            filled(alloc, fill, call)?
-                .as_str()
-                .trim_end()
-                .parse::<u64>()?,
-        ),
+        DiskLine::FailsAt(call) => NewDisk::FailsAt(number_in(filled(alloc, fill, call)?)?),
         DiskLine::Unmade => NewDisk::Unmade,
     })
 }
 
+// The number that a row is.
+fn number_in(row: String) -> Result<u64, ParseIntError> {
+    let number = row.as_str().trim_end().parse::<u64>();
+    mem::drop(row);
+    number
+}
+
 // The rows that a row makes.
-fn filled(alloc: Global, fill: &Fill<'_>, row: &str) -> anyhow::Result<String> {
+fn filled(alloc: Global, fill: &Fill<'_>, row: &str) -> Result<String, AllocError> {
     let mut text = String::new(alloc);
-    push_row(&mut text, fill, row)?;
-    Ok(text)
+    value_after(push_row(&mut text, fill, row), text)
 }
 
 impl Rows {
-    fn add_all(&mut self, alloc: Global, fill: &Fill<'_>, rows: &[&str]) -> anyhow::Result<()> {
+    fn add_all(&mut self, alloc: Global, fill: &Fill<'_>, rows: &[&str]) -> Result<(), AllocError> {
         for row in rows {
-            let text = filled(alloc, fill, row)?;
-            self.add_filled(alloc, text.as_str())?;
+            self.add_made(alloc, fill, row)?;
         }
         Ok(())
     }
 
     // Adds the rows that a row makes.
-    fn add_filled(&mut self, alloc: Global, text: &str) -> anyhow::Result<()> {
+    fn add_made(&mut self, alloc: Global, fill: &Fill<'_>, row: &str) -> Result<(), AllocError> {
+        let text = filled(alloc, fill, row)?;
+        let added = self.add_filled(alloc, text.as_str());
+        mem::drop(text);
+        added
+    }
+
+    fn add_filled(&mut self, alloc: Global, text: &str) -> Result<(), AllocError> {
         for row in text.split_terminator('\n') {
             self.add(alloc, row)?;
         }
         Ok(())
     }
 
-    fn add(&mut self, alloc: Global, row: &str) -> anyhow::Result<()> {
+    fn add(&mut self, alloc: Global, row: &str) -> Result<(), AllocError> {
         match row.split_once(" -> ") {
             Some((line, reply)) => {
-                writeln!(self.lines, "{line}")?;
-                self.replies.push(String::from_str(alloc, reply)?)?;
+                self.add_reply(alloc, reply)?;
+                writeln!(self.lines, "{line}")
             }
-            None => writeln!(self.lines, "{row}")?,
+            None => writeln!(self.lines, "{row}"),
         }
+    }
+
+    fn add_reply(&mut self, alloc: Global, reply: &str) -> Result<(), AllocError> {
+        self.replies.push(String::from_str(alloc, reply)?)?;
         Ok(())
     }
 

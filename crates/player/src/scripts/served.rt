@@ -1,6 +1,7 @@
 //! Runs scripts on disks of which calls may fail, which may be changed, checked, and mounted again.
 
 use crate::disks::{INODES, sectors_of};
+use crate::values::value_after;
 use anyhow::{anyhow, bail};
 use fs_check::{CheckFault, Summary, check};
 use fs_images::mkfs;
@@ -34,17 +35,34 @@ enum Request<'a> {
 
 /// What is answered to the lines on an empty file system of this version, of whose disk this call fails.
 pub fn replies(alloc: Global, version: Version, call: u64, lines: &str) -> anyhow::Result<String> {
+    let (served, _) = mounted(alloc, new_disk(alloc, version, call)?);
     let mut seen = String::new(alloc);
-    let mut served = mounted(alloc, &mut seen, new_disk(alloc, version, call)?)?;
-    seen.clear();
+    value_after(answer_all(alloc, &mut seen, served, lines), seen)
+}
+
+// Adds what is answered to the lines.
+fn answer_all(alloc: Global, seen: &mut String, served: Served, lines: &str) -> anyhow::Result<()> {
     let mut script = String::new(alloc);
+    let answered = answer_each(alloc, seen, &mut script, served, lines);
+    mem::drop(script);
+    answered
+}
+
+// Takes one line after another.
+fn answer_each(
+    alloc: Global,
+    seen: &mut String,
+    script: &mut String,
+    served: Served,
+    lines: &str,
+) -> anyhow::Result<()> {
+    let mut served = served;
     for line in lines.split_terminator('\n') {
-        served = took_line(alloc, &mut seen, &mut script, served, line)?;
+        served = took_line(alloc, seen, script, served, line)?;
     }
-    let pushed = push_replies(alloc, &mut seen, &mut served, script.as_str());
+    let pushed = push_replies(alloc, seen, &mut served, script.as_str());
     mem::drop(served);
-    pushed?;
-    Ok(seen)
+    pushed
 }
 
 // A disk with an empty file system, of which this call fails.
@@ -112,59 +130,45 @@ fn answered(
     let (mut disk, errno) = unmounted(served);
     let done = match request {
         Request::Mount(calls) => {
-            return mounted(alloc, seen, FuseDisk::new(disk.into_inner(), calls));
+            let (served, fault) = mounted(alloc, FuseDisk::new(disk.into_inner(), calls));
+            return Ok(value_after(push_mounted(seen, fault), served)?);
         }
-        Request::Unmount => push_unmounted(seen, errno),
+        Request::Unmount => push_unmounted(seen, errno).map_err(anyhow::Error::from),
         Request::Put(words) => put(&mut disk, words),
-        Request::Check => push_check(alloc, seen, &mut disk),
+        Request::Check => push_check(alloc, seen, &mut disk).map_err(anyhow::Error::from),
     };
-    served_after(done, Served::Down(disk))
+    value_after(done, Served::Down(disk))
 }
 
-// What is served, unless something went wrong.
-fn served_after(done: anyhow::Result<()>, served: Served) -> anyhow::Result<Served> {
-    match done {
-        Ok(()) => Ok(served),
-        Err(fault) => {
-            mem::drop(served);
-            Err(fault)
-        }
-    }
-}
-
-fn push_unmounted(seen: &mut String, errno: Option<&'static str>) -> anyhow::Result<()> {
+fn push_unmounted(seen: &mut String, errno: Option<&'static str>) -> Result<(), AllocError> {
     match errno {
-        None => seen.push_str("unmounted\n")?,
-        Some(errno) => writeln!(seen, "unmount: {errno}")?,
+        None => seen.push_str("unmounted\n"),
+        Some(errno) => writeln!(seen, "unmount: {errno}"),
     }
-    Ok(())
 }
 
 // Adds what a check finds.
-fn push_check<D: Disk>(alloc: Global, seen: &mut String, disk: &mut D) -> anyhow::Result<()> {
+fn push_check<D: Disk>(alloc: Global, seen: &mut String, disk: &mut D) -> Result<(), AllocError> {
     match check(alloc, disk) {
-        Ok(summary) => push_summary(seen, &summary)?,
-        Err(CheckFault::Found(finding)) => writeln!(seen, "finding {finding}")?,
-        Err(fault) => writeln!(seen, "{fault}")?,
+        Ok(summary) => push_summary(seen, &summary),
+        Err(CheckFault::Found(finding)) => writeln!(seen, "finding {finding}"),
+        Err(fault) => writeln!(seen, "{fault}"),
     }
-    Ok(())
 }
 
-// Mounts, and adds what comes of it.
-fn mounted(alloc: Global, seen: &mut String, disk: FailingDisk) -> anyhow::Result<Served> {
-    let (served, fault) = match Fs::mount(alloc, disk) {
+// What is served after a mount, and why the disk isn't mounted.
+fn mounted(alloc: Global, disk: FailingDisk) -> (Served, Option<MountFault>) {
+    match Fs::mount(alloc, disk) {
         Ok(fs) => (Served::Mounted(fs), None),
         Err((fault, disk)) => (Served::Down(disk), Some(fault)),
-    };
-    served_after(push_mounted(seen, fault), served)
+    }
 }
 
-fn push_mounted(seen: &mut String, fault: Option<MountFault>) -> anyhow::Result<()> {
+fn push_mounted(seen: &mut String, fault: Option<MountFault>) -> Result<(), AllocError> {
     match fault {
-        None => seen.push_str("mounted\n")?,
-        Some(fault) => writeln!(seen, "{fault}")?,
+        None => seen.push_str("mounted\n"),
+        Some(fault) => writeln!(seen, "{fault}"),
     }
-    Ok(())
 }
 
 // The disk after an unmount, and the error that this tells. From then on no call fails for want of calls that pass.
@@ -266,15 +270,21 @@ fn push_run(
     script: &str,
 ) -> anyhow::Result<()> {
     let mut written = Vec::new(alloc);
-    run(
+    let outcome = run(
         alloc,
         &mut Watched::new(script.as_bytes()),
         &mut Watched::new(&mut written),
         fs,
-    )?;
-    let text = String::from_utf8_lossy(alloc, &written)?;
-    seen.push_str(text.as_str())?;
-    Ok(())
+    );
+    let pushed = push_text(alloc, seen, &written);
+    mem::drop(written);
+    outcome?;
+    Ok(pushed?)
+}
+
+fn push_text(alloc: Global, seen: &mut String, written: &[u8]) -> Result<(), AllocError> {
+    let text = String::from_utf8_lossy(alloc, written)?;
+    seen.push_str(text.as_str())
 }
 
 // Each line that would have a reply finds nothing mounted.

@@ -1,12 +1,13 @@
 //! Plays scripts with stops of the disk.
 
 use crate::disks::{INODES, SECTORS, sectors_of};
+use crate::values::value_after;
 use anyhow::bail;
 use fs_images::mkfs;
 use fs_layout::Version;
 use fs_lines::{Line, parse_line, reply_text};
 use fs_model::{Bytes, Event, EventReply, Reply, RestartFault};
-use fs_system::play;
+use fs_system::{PlayFault, play};
 use sector_disk::MemDisk;
 use std::alloc::{AllocError, Global};
 use std::mem;
@@ -31,28 +32,46 @@ pub fn replies_without_mkfs(alloc: Global, lines: &str) -> anyhow::Result<String
 
 // What is answered to the lines on this disk, or why they aren't played.
 fn replies_on(alloc: Global, disk: MemDisk, lines: &str) -> anyhow::Result<String> {
-    let events = events_of(alloc, lines)?;
-    let (disk, outcome) = play(alloc, disk, &events);
-    mem::drop(disk);
-    mem::drop(events);
-    let mut seen = String::new(alloc);
-    match outcome {
-        Ok(replies) => {
-            let pushed = push_replies(alloc, &mut seen, &replies);
-            mem::drop(replies);
-            pushed?;
+    let mut events = Vec::new(alloc);
+    let seen = match push_events(alloc, &mut events, lines) {
+        Ok(()) => played(alloc, disk, &events),
+        Err(fault) => {
+            mem::drop(disk);
+            Err(fault)
         }
-        Err(fault) => writeln!(seen, "{fault}")?,
-    }
-    Ok(seen)
+    };
+    mem::drop(events);
+    seen
 }
 
-fn events_of(alloc: Global, lines: &str) -> anyhow::Result<Vec<Event>> {
-    let mut events = Vec::new(alloc);
-    for line in lines.split_terminator('\n') {
-        push_event(alloc, &mut events, line)?;
+// What is answered to the events.
+fn played(alloc: Global, disk: MemDisk, events: &[Event]) -> anyhow::Result<String> {
+    let (disk, outcome) = play(alloc, disk, events);
+    mem::drop(disk);
+    let mut seen = String::new(alloc);
+    Ok(value_after(push_outcome(alloc, &mut seen, outcome), seen)?)
+}
+
+fn push_outcome(
+    alloc: Global,
+    seen: &mut String,
+    outcome: Result<Vec<EventReply>, PlayFault>,
+) -> Result<(), AllocError> {
+    match outcome {
+        Ok(replies) => {
+            let pushed = push_replies(alloc, seen, &replies);
+            mem::drop(replies);
+            pushed
+        }
+        Err(fault) => writeln!(seen, "{fault}"),
     }
-    Ok(events)
+}
+
+fn push_events(alloc: Global, events: &mut Vec<Event>, lines: &str) -> anyhow::Result<()> {
+    for line in lines.split_terminator('\n') {
+        push_event(alloc, events, line)?;
+    }
+    Ok(())
 }
 
 // Adds the event that a line asks for, if it asks for one.
@@ -104,18 +123,20 @@ fn push_replies(
 }
 
 fn push_reply(alloc: Global, seen: &mut String, reply: &EventReply) -> Result<(), AllocError> {
-    match reply {
-        EventReply::Reply(reply) => push_text(alloc, seen, reply)?,
-        EventReply::Armed => seen.push_str("armed")?,
-        EventReply::Mounted => seen.push_str("mounted")?,
-        EventReply::MountFailed(RestartFault::DiskFault) => seen.push_str("failed DiskFault")?,
-        EventReply::MountFailed(RestartFault::OutOfMemory) => seen.push_str("failed OutOfMemory")?,
-        EventReply::Down => seen.push_str("down")?,
-    }
-    seen.push('\n')
+    let text = match reply {
+        EventReply::Reply(reply) => return push_text(alloc, seen, reply),
+        EventReply::Armed => "armed\n",
+        EventReply::Mounted => "mounted\n",
+        EventReply::MountFailed(RestartFault::DiskFault) => "failed DiskFault\n",
+        EventReply::MountFailed(RestartFault::OutOfMemory) => "failed OutOfMemory\n",
+        EventReply::Down => "down\n",
+    };
+    seen.push_str(text)
 }
 
 fn push_text(alloc: Global, seen: &mut String, reply: &Reply) -> Result<(), AllocError> {
     let text = reply_text(alloc, reply)?;
-    seen.push_str(text.as_str())
+    let pushed = writeln!(seen, "{text}");
+    mem::drop(text);
+    pushed
 }

@@ -3,7 +3,7 @@
 use crate::scripts::script::{NewDisk, Rows, Script};
 use crate::scripts::{served, stopped};
 use fs_layout::Version;
-use std::alloc::Global;
+use std::alloc::{AllocError, Global};
 use std::mem;
 
 /// `ok`, or the first numbers for which the script isn't answered as its rows say, and how it is answered.
@@ -36,9 +36,8 @@ fn other_at(alloc: Global, script: &Script<'_>, outer: u64) -> anyhow::Result<Op
         phases: 1,
     };
     for inner in script.inner.first..=script.inner.last {
-        let other = other_at_both(alloc, script, outer, inner, &mut phases)?;
-        if other.is_some() {
-            return Ok(other);
+        if let Some(other) = other_at_both(alloc, script, outer, inner, &mut phases)? {
+            return Ok(Some(other));
         }
         if script.inner.ends && phases.is_last() {
             return Ok(None);
@@ -64,9 +63,16 @@ fn other_at_both(
     let other = other_than(alloc, &rows, inner > script.inner.first, phases);
     mem::drop(rows);
     match other? {
-        Some(seen) => Ok(Some(format!(in alloc; "at {outer} {inner}\n{seen}")?)),
+        Some(seen) => Ok(Some(told(alloc, outer, inner, seen)?)),
         None => Ok(None),
     }
+}
+
+// How these numbers are answered.
+fn told(alloc: Global, outer: u64, inner: u64, seen: String) -> Result<String, AllocError> {
+    let told = format!(in alloc; "at {outer} {inner}\n{seen}");
+    mem::drop(seen);
+    told
 }
 
 // How these rows are answered, where that isn't wanted. The next replies may be seen from now on.
