@@ -21,11 +21,17 @@ fn named(alloc: Global, name: &[u8], ino: u32) -> Result<Named, AllocError> {
     Ok(Named { name, ino })
 }
 
-fn names(alloc: Global) -> Result<Listing, AllocError> {
-    let mut names = Vec::new(alloc);
+fn push_names(alloc: Global, names: &mut Vec<Named>) -> Result<(), AllocError> {
     names.push(named(alloc, b"b", 6)?)?;
     names.push(named(alloc, b"a", 5)?)?;
-    Ok(Listing::new(names))
+    Ok(())
+}
+
+// The two names; with less memory fewer.
+fn names(alloc: Global) -> Listing {
+    let mut names = Vec::new(alloc);
+    let _pushed = push_names(alloc, &mut names);
+    Listing::new(names)
 }
 
 // What a name leads to: to the root, unless it is one of the two.
@@ -55,10 +61,7 @@ impl Player for Root {
         match call {
             Call::Open(..) => Reply::Fd(0),
             Call::Lstat(path) => Reply::Shown(status_of(path.bytes())),
-            Call::Readdir(_) => match names(self.alloc) {
-                Ok(names) => Reply::Names(names),
-                Err(AllocError) => Reply::Done,
-            },
+            Call::Readdir(_) => Reply::Names(names(self.alloc)),
             _ => Reply::Done,
         }
     }

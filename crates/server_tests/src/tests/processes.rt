@@ -1,10 +1,9 @@
 //! What no clause says: which processes and handles there are after which changes, and how many there may be.
-use crate::tests::state::{number, started};
-use fs_cred::{Cred, CredFault};
+use crate::tests::state::{Row, first_other, number};
+use fs_cred::Cred;
 use fs_model::Listing;
 use fuse_state::{Server, descriptor_of, handle_of, owner_of};
-use std::alloc::Global;
-use std::mem;
+use std::alloc::{AllocError, Global};
 use std::test::Fail;
 
 // What happens to processes and handles, or what is asked. Processes go by their numbers, and callers by their users.
@@ -36,15 +35,22 @@ enum Use {
     ServerProcess,
     Ends,
     IsEnded,
+    // The most bytes of a write.
+    MaxWrite,
 }
 
-fn begun(server: &mut Server, alloc: Global, pid: u32, uid: u32) -> Result<u64, CredFault> {
+// The credential of a user.
+fn cred_of(alloc: Global, uid: u32) -> Result<Cred, AllocError> {
+    Cred::new(alloc, uid, 100, &[200, 300]).map_err(|_| AllocError)
+}
+
+fn begun(server: &mut Server, alloc: Global, pid: u32, uid: u32) -> Result<u64, AllocError> {
     server.prepare()?;
-    server.add_process(pid as usize, Cred::new(alloc, uid, 100, &[200, 300])?);
+    server.add_process(pid as usize, cred_of(alloc, uid)?);
     Ok(0)
 }
 
-fn opens(server: &mut Server, pid: u32, count: u32, ino: u32) -> Result<u64, CredFault> {
+fn opens(server: &mut Server, pid: u32, count: u32, ino: u32) -> Result<u64, AllocError> {
     for fd in 0..count {
         server.prepare()?;
         server.add_handle(handle_of(pid as usize, fd as usize), ino);
@@ -52,7 +58,7 @@ fn opens(server: &mut Server, pid: u32, count: u32, ino: u32) -> Result<u64, Cre
     Ok(0)
 }
 
-fn closes(server: &mut Server, pid: u32, fd: u32) -> Result<u64, CredFault> {
+fn closes(server: &mut Server, pid: u32, fd: u32) -> Result<u64, AllocError> {
     server.remove_handle(handle_of(pid as usize, fd as usize));
     Ok(0)
 }
@@ -63,7 +69,7 @@ fn crowd(
     uid: u32,
     first: u32,
     count: u32,
-) -> Result<u64, CredFault> {
+) -> Result<u64, AllocError> {
     for i in 0..count {
         let pid = first.wrapping_add(i);
         let _begun = begun(server, alloc, pid, uid)?;
@@ -79,8 +85,8 @@ fn process(pid: Option<usize>) -> u64 {
     }
 }
 
-fn asked(server: &Server, alloc: Global, step: Use, uid: u32) -> Result<u64, CredFault> {
-    let cred = Cred::new(alloc, uid, 100, &[200, 300])?;
+fn asked(server: &Server, alloc: Global, step: Use, uid: u32) -> Result<u64, AllocError> {
+    let cred = cred_of(alloc, uid)?;
     Ok(match step {
         Use::First(_) => process(server.first_process(&cred)),
         Use::PartlyUsed(_) => process(server.partly_used(&cred)),
@@ -88,7 +94,7 @@ fn asked(server: &Server, alloc: Global, step: Use, uid: u32) -> Result<u64, Cre
     })
 }
 
-fn opens_directory(server: &mut Server, uid: u32, count: u32, ino: u32) -> Result<u64, CredFault> {
+fn opens_directory(server: &mut Server, uid: u32, count: u32, ino: u32) -> Result<u64, AllocError> {
     let mut handle = 0;
     for _ in 0..count {
         server.prepare()?;
@@ -98,7 +104,7 @@ fn opens_directory(server: &mut Server, uid: u32, count: u32, ino: u32) -> Resul
     Ok(handle)
 }
 
-fn lists_directory(server: &mut Server, alloc: Global, handle: u64) -> Result<u64, CredFault> {
+fn lists_directory(server: &mut Server, alloc: Global, handle: u64) -> Result<u64, AllocError> {
     server.prepare()?;
     server.set_listing(handle, Listing::new(Vec::new(alloc)));
     Ok(0)
@@ -111,7 +117,7 @@ fn owner_at(server: &Server, handle: u64) -> u64 {
     }
 }
 
-fn closes_directory(server: &mut Server, handle: u64) -> Result<u64, CredFault> {
+fn closes_directory(server: &mut Server, handle: u64) -> Result<u64, AllocError> {
     server.remove_directory(handle);
     Ok(0)
 }
@@ -123,45 +129,51 @@ fn directory_at(server: &Server, handle: u64) -> u64 {
     }
 }
 
-fn ended(server: &mut Server, pid: u32) -> Result<u64, CredFault> {
+fn ended(server: &mut Server, pid: u32) -> Result<u64, AllocError> {
     server.remove_process(pid as usize);
     Ok(0)
 }
 
-fn looks(server: &mut Server, pid: u32) -> Result<u64, CredFault> {
+fn looks(server: &mut Server, pid: u32) -> Result<u64, AllocError> {
     server.set_server_process(pid as usize);
     Ok(0)
 }
 
-fn ends(server: &mut Server) -> Result<u64, CredFault> {
+fn ends(server: &mut Server) -> Result<u64, AllocError> {
     server.end();
     Ok(0)
 }
 
-fn used(server: &mut Server, alloc: Global, step: Use) -> Result<u64, CredFault> {
-    match step {
-        Use::Begun(pid, uid) => begun(server, alloc, pid, uid),
-        Use::Ended(pid) => ended(server, pid),
-        Use::Opens(pid, count, ino) => opens(server, pid, count, ino),
-        Use::Closes(pid, fd) => closes(server, pid, fd),
-        Use::Crowd(uid, first, count) => crowd(server, alloc, uid, first, count),
-        Use::First(uid) => asked(server, alloc, step, uid),
-        Use::PartlyUsed(uid) => asked(server, alloc, step, uid),
-        Use::Idle(uid) => asked(server, alloc, step, uid),
-        Use::MayTake(uid) => Ok(u64::from(server.may_take_process(uid))),
-        Use::NextIdle(least) => Ok(process(server.next_idle(least as usize))),
-        Use::Object(pid, fd) => Ok(number(server.object_of(handle_of(pid as usize, fd as usize)))),
-        Use::HandleFor(ino) => Ok(server.handle_for(ino).unwrap_or(0)),
-        Use::OpensDirectory(uid, count, ino) => opens_directory(server, uid, count, ino),
-        Use::ListsDirectory(handle) => lists_directory(server, alloc, handle),
-        Use::ClosesDirectory(handle) => closes_directory(server, handle),
-        Use::DirectoryAt(handle) => Ok(directory_at(server, handle)),
-        Use::OwnerAt(handle) => Ok(owner_at(server, handle)),
-        Use::MayOpen(uid) => Ok(u64::from(server.may_open_directory(uid))),
-        Use::Looks(pid) => looks(server, pid),
-        Use::ServerProcess => Ok(process(server.server_process())),
-        Use::Ends => ends(server),
-        Use::IsEnded => Ok(u64::from(server.is_ended())),
+impl Row for Use {
+    fn answer_of(self, server: &mut Server, alloc: Global) -> Result<u64, AllocError> {
+        match self {
+            Use::Begun(pid, uid) => begun(server, alloc, pid, uid),
+            Use::Ended(pid) => ended(server, pid),
+            Use::Opens(pid, count, ino) => opens(server, pid, count, ino),
+            Use::Closes(pid, fd) => closes(server, pid, fd),
+            Use::Crowd(uid, first, count) => crowd(server, alloc, uid, first, count),
+            Use::First(uid) => asked(server, alloc, self, uid),
+            Use::PartlyUsed(uid) => asked(server, alloc, self, uid),
+            Use::Idle(uid) => asked(server, alloc, self, uid),
+            Use::MayTake(uid) => Ok(u64::from(server.may_take_process(uid))),
+            Use::NextIdle(least) => Ok(process(server.next_idle(least as usize))),
+            Use::Object(pid, fd) => Ok(number(server.object_of(handle_of(
+                pid as usize,
+                fd as usize,
+            )))),
+            Use::HandleFor(ino) => Ok(server.handle_for(ino).unwrap_or(0)),
+            Use::OpensDirectory(uid, count, ino) => opens_directory(server, uid, count, ino),
+            Use::ListsDirectory(handle) => lists_directory(server, alloc, handle),
+            Use::ClosesDirectory(handle) => closes_directory(server, handle),
+            Use::DirectoryAt(handle) => Ok(directory_at(server, handle)),
+            Use::OwnerAt(handle) => Ok(owner_at(server, handle)),
+            Use::MayOpen(uid) => Ok(u64::from(server.may_open_directory(uid))),
+            Use::Looks(pid) => looks(server, pid),
+            Use::ServerProcess => Ok(process(server.server_process())),
+            Use::Ends => ends(server),
+            Use::IsEnded => Ok(u64::from(server.is_ended())),
+            Use::MaxWrite => Ok(u64::from(server.settings().max_write)),
+        }
     }
 }
 
@@ -230,7 +242,7 @@ static CROWDS: [(Use, u64); 17] = [
 ];
 
 // Then: what directories are open.
-static DIRECTORIES: [(Use, u64); 26] = [
+static DIRECTORIES: [(Use, u64); 27] = [
     // Handles of directories lie behind those of files; 128 of one user may be open, and 200 of all, but for the same.
     (Use::OpensDirectory(1000, 1, 5), 4_294_967_296),
     (Use::OpensDirectory(1001, 1, 6), 4_294_967_297),
@@ -258,6 +270,7 @@ static DIRECTORIES: [(Use, u64); 26] = [
     (Use::IsEnded, 0),
     (Use::Ends, 0),
     (Use::IsEnded, 1),
+    (Use::MaxWrite, 4096),
 ];
 
 // Whether handles are numbered one by one, and lead back to their processes and descriptors.
@@ -275,45 +288,10 @@ fn handles_are_apart() -> bool {
     same
 }
 
-// The first row that is answered otherwise, and how.
-fn other_use(
-    server: &mut Server,
-    alloc: Global,
-    rows: &[(Use, u64)],
-) -> Result<Option<(usize, u64)>, CredFault> {
-    for (i, (step, wanted)) in rows.iter().enumerate() {
-        let answer = used(server, alloc, *step)?;
-        if answer != *wanted {
-            return Ok(Some((i, answer)));
-        }
-    }
-    Ok(None)
-}
-
-// The first row of each part that a server answers otherwise, one part after another; and the most bytes of a write.
-fn other_uses(
-    server: &mut Server,
-    alloc: Global,
-) -> Result<([Option<(usize, u64)>; 3], u32), CredFault> {
-    let others = [
-        other_use(server, alloc, &PROCESSES)?,
-        other_use(server, alloc, &CROWDS)?,
-        other_use(server, alloc, &DIRECTORIES)?,
-    ];
-    Ok((others, server.settings().max_write))
-}
-
-// The same of a server that begins.
-fn first_uses(alloc: Global) -> Result<([Option<(usize, u64)>; 3], u32), CredFault> {
-    let mut server = started(alloc)?;
-    let others = other_uses(&mut server, alloc);
-    mem::drop(server);
-    others
-}
-
 #[test]
 fn processes_and_handles(rt: HostRuntime) -> Result<(), Fail> {
-    let seen = (first_uses(rt.alloc())?, handles_are_apart());
-    assert!(rt; seen == (([None; 3], 4096), true), "{seen:?}");
+    let other = first_other(rt.alloc(), &[&PROCESSES, &CROWDS, &DIRECTORIES])?;
+    let seen = (other, handles_are_apart());
+    assert!(rt; seen == (None, true), "{seen:?}");
     Ok(())
 }

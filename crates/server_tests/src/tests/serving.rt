@@ -200,8 +200,8 @@ fn seen_of(alloc: Global, row: &Row) -> Result<(Seen, bool), AllocError> {
 #[test]
 fn requests_are_answered_in_turn(rt: HostRuntime) -> Result<(), AllocError> {
     for row in &ROWS {
-        let (seen, are_written) = seen_of(rt.alloc(), row)?;
-        assert!(rt; seen == row.2 && are_written, "{seen:?}");
+        let seen = seen_of(rt.alloc(), row)?;
+        assert!(rt; seen == (row.2, true), "{seen:?}");
     }
     Ok(())
 }

@@ -58,7 +58,7 @@ pub(super) fn number(found: Option<u32>) -> u64 {
     u64::from(found.unwrap_or(0))
 }
 
-pub(super) fn started(alloc: Global) -> Result<Server, AllocError> {
+fn started(alloc: Global) -> Result<Server, AllocError> {
     let settings = Settings {
         max_write: 4096,
         posix_acl: true,
@@ -179,6 +179,7 @@ fn lent(server: &mut Server, alloc: Global, ino: u32, at: usize) -> Result<u64, 
     let blank = Name::from_slice(alloc, b"")?;
     let mut call = Call::Umask(0);
     let letter = server.call_at(&mut Noter, 1, None, &mut call, ino, at, blank);
+    call.discard();
     Ok(letter.unwrap_or(0))
 }
 
@@ -244,30 +245,44 @@ fn heard(server: &mut Server, bytes: &[u8]) -> Result<u64, AllocError> {
     Ok(0)
 }
 
-// The answer: 0 for nothing, and where something happens.
-fn answered(server: &mut Server, alloc: Global, step: Step) -> Result<u64, AllocError> {
-    match step {
-        Step::Made(now, name, ino) => made(server, alloc, now, name, ino),
-        Step::Found(name, ino) => found(server, alloc, name, ino),
-        Step::Gone(name) => gone(server, alloc, name),
-        Step::Removed(now, name) => removed(server, alloc, now, name),
-        Step::Moved(now, old, new) => moved(server, alloc, now, old, new),
-        Step::Linked(now, name, ino) => linked(server, alloc, now, name, ino),
-        Step::Opened(now, name, ino, new, cut) => opened(server, alloc, now, name, ino, (new, cut)),
-        Step::Held(ino) => held(server, ino),
-        Step::Lent(ino, at) => lent(server, alloc, ino, at),
-        Step::Written(now, ino) => written(server, now, ino),
-        Step::Changed(now, ino) => changed(server, now, ino),
-        Step::TimesSet(time, ino) => times_set(server, time, ino),
-        Step::Forgotten(node, count) => forgotten(server, node, count),
-        Step::Heard(bytes) => heard(server, bytes),
-        Step::Named(name) => named(server, alloc, name),
-        Step::Directory(ino) => Ok(directory(server, ino)),
-        Step::Letter(ino) => Ok(letter(server, ino)),
-        Step::Node(ino) => Ok(server.node_of(ino)),
-        Step::Number(node) => Ok(number(server.number_of(node))),
-        Step::Mtime(ino) => Ok(server.times_of(ino).mtime.seconds),
-        Step::Ctime(ino) => Ok(server.times_of(ino).ctime.seconds),
+// What happens to a server, or what it is asked.
+pub(super) trait Row: Copy {
+    // The answer: 0 for nothing, and where something happens.
+    fn answer_of(self, server: &mut Server, alloc: Global) -> Result<u64, AllocError>;
+}
+
+impl Row for Step {
+    fn answer_of(self, server: &mut Server, alloc: Global) -> Result<u64, AllocError> {
+        match self {
+            Step::Made(now, name, ino) => made(server, alloc, now, name, ino),
+            Step::Found(name, ino) => found(server, alloc, name, ino),
+            Step::Gone(name) => gone(server, alloc, name),
+            Step::Removed(now, name) => removed(server, alloc, now, name),
+            Step::Moved(now, old, new) => moved(server, alloc, now, old, new),
+            Step::Linked(now, name, ino) => linked(server, alloc, now, name, ino),
+            Step::Opened(now, name, ino, new, cut) => opened(
+                server,
+                alloc,
+                now,
+                name,
+                ino,
+                (new, cut),
+            ),
+            Step::Held(ino) => held(server, ino),
+            Step::Lent(ino, at) => lent(server, alloc, ino, at),
+            Step::Written(now, ino) => written(server, now, ino),
+            Step::Changed(now, ino) => changed(server, now, ino),
+            Step::TimesSet(time, ino) => times_set(server, time, ino),
+            Step::Forgotten(node, count) => forgotten(server, node, count),
+            Step::Heard(bytes) => heard(server, bytes),
+            Step::Named(name) => named(server, alloc, name),
+            Step::Directory(ino) => Ok(directory(server, ino)),
+            Step::Letter(ino) => Ok(letter(server, ino)),
+            Step::Node(ino) => Ok(server.node_of(ino)),
+            Step::Number(node) => Ok(number(server.number_of(node))),
+            Step::Mtime(ino) => Ok(server.times_of(ino).mtime.seconds),
+            Step::Ctime(ino) => Ok(server.times_of(ino).ctime.seconds),
+        }
     }
 }
 
@@ -477,13 +492,13 @@ static FORGOTTEN_AGAIN: [(Step, u64); 20] = [
 ];
 
 // The first row that is answered otherwise, and how.
-fn other_answer(
+fn other_answer<R: Row>(
     server: &mut Server,
     alloc: Global,
-    rows: &[(Step, u64)],
+    rows: &[(R, u64)],
 ) -> Result<Option<(usize, u64)>, AllocError> {
-    for (i, (step, wanted)) in rows.iter().enumerate() {
-        let answer = answered(server, alloc, *step)?;
+    for (i, (row, wanted)) in rows.iter().enumerate() {
+        let answer = row.answer_of(server, alloc)?;
         if answer != *wanted {
             return Ok(Some((i, answer)));
         }
@@ -492,10 +507,10 @@ fn other_answer(
 }
 
 // The first row that a server answers otherwise, and in which part: one part after another.
-fn other_part(
+fn other_part<R: Row>(
     server: &mut Server,
     alloc: Global,
-    parts: &[&[(Step, u64)]],
+    parts: &[&[(R, u64)]],
 ) -> Result<Option<(usize, usize, u64)>, AllocError> {
     for (i, rows) in parts.iter().enumerate() {
         if let Some((row, answer)) = other_answer(server, alloc, rows)? {
@@ -506,9 +521,9 @@ fn other_part(
 }
 
 // The same of a server that begins.
-fn first_other(
+pub(super) fn first_other<R: Row>(
     alloc: Global,
-    parts: &[&[(Step, u64)]],
+    parts: &[&[(R, u64)]],
 ) -> Result<Option<(usize, usize, u64)>, AllocError> {
     let mut server = started(alloc)?;
     let other = other_part(&mut server, alloc, parts);
@@ -516,13 +531,17 @@ fn first_other(
     other
 }
 
+// The first other answers of a server to what changes, and of one to what is forgotten.
+fn others(alloc: Global) -> Result<[Option<(usize, usize, u64)>; 2], AllocError> {
+    Ok([
+        first_other(alloc, &[&MADE, &REMOVED, &FOUND, &OPENED])?,
+        first_other(alloc, &[&FORGOTTEN, &FORGOTTEN_AGAIN])?,
+    ])
+}
+
 #[test]
 fn answers_follow_changes(rt: HostRuntime) -> Result<(), Fail> {
-    let changes = first_other(rt.alloc(), &[&MADE, &REMOVED, &FOUND, &OPENED])?;
-    let forgets = first_other(rt.alloc(), &[&FORGOTTEN, &FORGOTTEN_AGAIN])?;
-    assert!(rt;
-        changes == None && forgets == None,
-        "{changes:?} {forgets:?}"
-    );
+    let seen = others(rt.alloc())?;
+    assert!(rt; seen == [None; 2], "{seen:?}");
     Ok(())
 }

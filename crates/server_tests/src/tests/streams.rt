@@ -4,7 +4,7 @@ use fuse_serving::{Caller, Kernel, Standard, caller_of_status};
 use std::alloc::{AllocError, Global};
 use std::io::{self, ErrorKind, Read, Write};
 use std::test::Fail;
-use std::{fs, str};
+use std::{fs, mem, str};
 
 // What a read comes to.
 #[derive(Clone, Copy)]
@@ -204,13 +204,19 @@ fn number_in(status: &[u8], name: &[u8]) -> Option<u32> {
 // A process, and the user and the group as which it acts on files.
 type Ids = (u32, u32, u32);
 
+fn ids_in(status: &[u8]) -> Ids {
+    let pid = number_in(status, b"Pid:").unwrap_or(0);
+    let uid = number_in(status, b"Uid:").unwrap_or(0);
+    let gid = number_in(status, b"Gid:").unwrap_or(0);
+    (pid, uid, gid)
+}
+
 // The ids that a status says, and what else that says.
 fn told_by(alloc: Global, status: Vec<u8>) -> Result<(Ids, Known), AllocError> {
-    let pid = number_in(&status, b"Pid:").unwrap_or(0);
-    let uid = number_in(&status, b"Uid:").unwrap_or(0);
-    let gid = number_in(&status, b"Gid:").unwrap_or(0);
-    let known = known_in(alloc, &status, uid, gid)?;
-    Ok(((pid, uid, gid), known))
+    let ids = ids_in(&status);
+    let known = known_in(alloc, &status, ids.1, ids.2);
+    mem::drop(status);
+    Ok((ids, known?))
 }
 
 // What is known of a process, of it as another group, and of none, and whether the time is.
@@ -223,22 +229,35 @@ fn learnt_from<K: Kernel + Drop>(kernel: K, ids: Ids) -> ([Known; 3], bool) {
     ([own, other, none], kernel.now().is_ok())
 }
 
+// What the first reads that come to something else come to.
+fn other_read(rt: HostRuntime) -> Option<Sizes> {
+    for (turns, wanted) in &READS {
+        let seen = sizes_of(kernel_at(rt, turns, Output::Takes));
+        if seen != *wanted {
+            return Some(seen);
+        }
+    }
+    None
+}
+
+// What the first write that comes to something else comes to.
+fn other_write(rt: HostRuntime) -> Option<Option<bool>> {
+    for (output, wanted) in &WRITES {
+        let seen = taken_by(kernel_at(rt, &[], *output));
+        if seen != *wanted {
+            return Some(seen);
+        }
+    }
+    None
+}
+
 #[test]
 fn what_passes_at_streams(rt: HostRuntime) -> Result<(), Fail> {
     let (ids, own) = told_by(rt.alloc(), fs::read(&rt, "/proc/self/status")?)?;
-    for (turns, wanted) in &READS {
-        let seen = sizes_of(kernel_at(rt, turns, Output::Takes));
-        assert!(rt; seen == *wanted, "{seen:?}");
-    }
-    for (output, wanted) in &WRITES {
-        let seen = taken_by(kernel_at(rt, &[], *output));
-        assert!(rt; seen == *wanted, "{seen:?}");
-    }
-    let seen = learnt_from(kernel_at(rt, &[], Output::Takes), ids);
+    let learnt = learnt_from(kernel_at(rt, &[], Output::Takes), ids);
+    let seen = (other_read(rt), other_write(rt), own.0.is_some(), learnt);
     let nothing = (None, 0);
-    assert!(rt;
-        own.0.is_some() && seen == ([own, nothing, nothing], true),
-        "{seen:?}"
-    );
+    let wanted = (None, None, true, ([own, nothing, nothing], true));
+    assert!(rt; seen == wanted, "{seen:?}");
     Ok(())
 }
