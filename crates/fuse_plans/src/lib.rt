@@ -17,6 +17,6 @@ pub use laws::{
     who_asks_counts_only_where_needed,
 };
 pub use mode::Mode;
-pub use reply::{Attributes, ReplyBody, Response, attr_of, looked_up_entry};
+pub use reply::{Attributes, Replied, ReplyBody, Response, attr_of, looked_up_entry};
 pub use request::{Asked, WhoCounts, needs_caller};
-pub use request_error::{OtherErrno, RequestError};
+pub use request_error::{OtherErrno, RequestError, Tried};

@@ -2,7 +2,7 @@
 ghost use Rattle.std.specs.Prelude.{◌≡◌, ◌+◌};
 ghost use Rattle.fuse_plans.specs.Protocol.{type_bits, attr_of, looked_up_entry};
 
-use crate::request_error::RequestError;
+use crate::request_error::{RequestError, Tried};
 use fs_model::{Bytes, FileType, Status};
 use fuse_protocol::{Attr, FoundEntry, OpenedFlags, Terms};
 use fuse_state::Times;
@@ -57,6 +57,9 @@ pub enum ReplyBody {
     /// The first reply.
     Agreed(Terms),
 }
+
+/// What a request comes to: what it is answered, or why it fails.
+pub type Replied = Tried<ReplyBody>;
 
 /// The answer to a request.
 #[derive(Drop)]

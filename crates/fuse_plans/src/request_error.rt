@@ -23,6 +23,9 @@ pub enum RequestError {
     Lacks(OtherErrno),
 }
 
+/// What is tried for a request: what comes of it, or why the request fails.
+pub type Tried<T> = Result<T, RequestError>;
+
 impl OtherErrno {
     /// The number on Linux.
     pub fn number(self) -> u8

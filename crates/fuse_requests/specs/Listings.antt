@@ -1,7 +1,8 @@
 -- What is promised of a listing whose names are looked up.
+--     HasRoom        there is room for a listing
 --     Listed        a session has the names of an open directory
 --     ToldOne        one of them was looked up, and its record was added
-use Rattle.std.specs.Prelude.{◌≡◌, ℕ, ◌+◌, ◌≤◌, Bool, List, ◌++◌, length, Some, Result, Ok}
+use Rattle.std.specs.Prelude.{◌≡◌, ℕ, ◌+◌, ◌-◌, ◌*◌, ◌≤◌, Bool, List, [], ◌++◌, length, Some, Result, Ok}
 use Rattle.fs_model.specs.declared.event.Event.{Event}
 use Rattle.fs_model.specs.declared.reply.Reply.{Reply}
 use Rattle.fuse_protocol.specs.Entries.{record_size, directory_record_bytes}
@@ -10,8 +11,13 @@ use Rattle.fuse_plans.specs.declared.request_error.RequestError.{RequestError}
 use Rattle.fuse_plans.specs.declared.reply.ReplyBody.{ReplyBody}
 use Rattle.fuse_plans.specs.ListingPlans.{find_listed, told_record}
 use Rattle.fuse_plans.specs.Works.{Work, attempt}
+use Rattle.fuse_sessions.specs.declared.listing.TheConstants.{LEAST_RECORD}
 use Rattle.fuse_sessions.specs.declared.session.Session.{Session}
 use Rattle.fuse_sessions.specs.Performing.{Did}
+
+-- so many bytes can be told where none is yet, and copies made of as many names as may have records in them
+abbrev pub HasRoom : ℕ → List ℕ → ℕ → ℕ → Type 0
+HasRoom size bytes capacity names = (bytes ≡ []) × (size ≤ capacity) × (size ≤ LEAST_RECORD * names + (LEAST_RECORD - 1))
 
 -- the work has given the names that are kept of the open directory
 pub record Listed {M : Type 0} (Serves : M → Event → Reply → M → Type 0) (work : Work (List (List ℕ × ℕ))) (old new : Session M) (handle : ℕ) : Type 0 where

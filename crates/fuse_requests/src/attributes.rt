@@ -8,7 +8,7 @@ use crate::act::Act;
 use crate::files::call_open;
 use fs_cred::Cred;
 use fs_model::{Bytes, Call, FileType, Reply, Status};
-use fuse_plans::{Asked, ReplyBody, RequestError};
+use fuse_plans::{Asked, Replied, ReplyBody, RequestError, Tried};
 use fuse_protocol::{AttrChanges, Time};
 use fuse_sessions::Session;
 use fuse_state::{Server, Times, descriptor_of, stamp_of};
@@ -30,10 +30,7 @@ pub(crate) fn is_known_link(kind: Option<FileType>) -> bool
 }
 
 // What is told of an object that was shown.
-fn tell_attributes<M: Machine>(
-    session: &mut Session<M>,
-    status: Status,
-) -> Result<ReplyBody, RequestError>
+fn tell_attributes<M: Machine>(session: &mut Session<M>, status: Status) -> Replied
     ensures { Did M.Serves (tell_attributes status) session.old session.new result }
 {
     let stamps = session.told_stamps(status.ino)?;
@@ -41,10 +38,7 @@ fn tell_attributes<M: Machine>(
 }
 
 /// What is told of an object.
-pub(crate) fn get_attributes<M: Machine>(
-    session: &mut Session<M>,
-    asked: &Asked,
-) -> Result<ReplyBody, RequestError>
+pub(crate) fn get_attributes<M: Machine>(session: &mut Session<M>, asked: &Asked) -> Replied
     ensures { Did M.Serves (get_attributes asked.entry.now) session.old session.new result }
 {
     let ino = session.the_number(asked.node)?;
@@ -58,7 +52,7 @@ fn new_owners<M: Machine>(
     changes: &AttrChanges,
     ino: u32,
     link: bool,
-) -> Result<(Option<u32>, Option<u32>), RequestError>
+) -> Tried<(Option<u32>, Option<u32>)>
     ensures did { Did M.Serves (new_owners changes.now ino link) session.old session.new result }
     ensures kept { session.new.server ≡ session.old.server }
 {
@@ -79,7 +73,7 @@ fn resize_object<M: Machine>(
     ino: u32,
     size: u64,
     handle: Option<u64>,
-) -> Result<Reply, RequestError>
+) -> Tried<Reply>
     ensures did { Did M.Serves (resize_object pid ino size handle) session.old session.new result }
     ensures kept { session.new.server ≡ session.old.server }
 {
@@ -99,7 +93,7 @@ fn set_size<M: Machine>(
     act: Act,
     handle: Option<u64>,
     size: Option<u64>,
-) -> Result<(), RequestError>
+) -> Tried<()>
     requires { 1 ≤ session.old.server.room }
     ensures did { Did M.Serves (set_size act.now act.pid act.ino handle size) session.old session.new result }
     ensures room { session.old.server.room ≤ session.new.server.room + 1 }
@@ -116,7 +110,7 @@ fn set_owners<M: Machine>(
     session: &mut Session<M>,
     act: Act,
     owners: (Option<u32>, Option<u32>),
-) -> Result<(), RequestError>
+) -> Tried<()>
     requires { 1 ≤ session.old.server.room }
     ensures did { Did M.Serves (set_owners act.now act.pid act.ino owners) session.old session.new result }
     ensures room { session.old.server.room ≤ session.new.server.room + 1 }
@@ -132,11 +126,7 @@ fn set_owners<M: Machine>(
     Ok(())
 }
 
-fn set_mode<M: Machine>(
-    session: &mut Session<M>,
-    act: Act,
-    mode: Option<u32>,
-) -> Result<(), RequestError>
+fn set_mode<M: Machine>(session: &mut Session<M>, act: Act, mode: Option<u32>) -> Tried<()>
     requires { 1 ≤ session.old.server.room }
     ensures did { Did M.Serves (set_mode act.now act.pid act.ino mode) session.old session.new result }
     ensures room { session.old.server.room ≤ session.new.server.room + 1 }
@@ -156,7 +146,7 @@ fn change_attributes<M: Machine>(
     act: Act,
     link: bool,
     changes: &AttrChanges,
-) -> Result<(), RequestError>
+) -> Tried<()>
     requires { 3 ≤ session.old.server.room }
     ensures did { Did M.Serves (change_attributes act.now act.pid act.ino link changes.now) session.old session.new result }
     ensures room { session.old.server.room ≤ session.new.server.room + 3 }
@@ -170,13 +160,12 @@ fn change_attributes<M: Machine>(
 // The owner may; and who may write may set both to the present time.
 fn may_set_times<M: Machine>(
     session: &mut Session<M>,
-    pid: usize,
-    ino: u32,
+    act: Act,
     link: bool,
     is_owner: bool,
     changes: &AttrChanges,
-) -> Result<(), RequestError>
-    ensures did { Did M.Serves (may_set_times pid ino link is_owner changes.now) session.old session.new result }
+) -> Tried<()>
+    ensures did { Did M.Serves (may_set_times act.pid act.ino link is_owner changes.now) session.old session.new result }
     ensures kept { session.new.server ≡ session.old.server }
 {
     if is_owner {
@@ -186,20 +175,19 @@ fn may_set_times<M: Machine>(
         return Err(RequestError::EPERM);
     }
     let call = Call::Access(session.blank_path(), Perms::from_digit(2));
-    done(session.on_once(pid, ino, call))
+    done(session.on_once(act.pid, act.ino, call))
 }
 
 fn set_times<M: Machine>(
     session: &mut Session<M>,
     asked: &Asked,
-    pid: usize,
-    ino: u32,
+    act: Act,
     link: bool,
     status: Status,
     changes: &AttrChanges,
-) -> Result<(), RequestError>
+) -> Tried<()>
     requires { 1 ≤ session.old.server.room }
-    ensures { Did M.Serves (set_times asked.entry.now pid ino link status changes.now) session.old session.new result }
+    ensures { Did M.Serves (set_times asked.entry.now act.pid act.ino link status changes.now) session.old session.new result }
 {
     if !sets_times(changes) {
         return Ok(());
@@ -208,8 +196,8 @@ fn set_times<M: Machine>(
         return Err(RequestError::EACCES);
     };
     let is_owner = counts_as_owner(cred, status.owner);
-    may_set_times(session, pid, ino, link, is_owner, changes)?;
-    set_stamps(session, asked.now, ino, status, changes)
+    may_set_times(session, act, link, is_owner, changes)?;
+    set_stamps(session, asked.now, act.ino, status, changes)
 }
 
 /// Changes attributes.
@@ -218,7 +206,7 @@ pub(crate) fn set_attributes<M: Machine>(
     asked: &Asked,
     copy: Option<Cred>,
     changes: &AttrChanges,
-) -> Result<ReplyBody, RequestError>
+) -> Replied
     requires copy { copy ≡ asked.now.cred }
     requires room { 5 ≤ session.old.server.room }
     ensures { Did M.Serves (set_attributes asked.entry.now changes.now) session.old session.new result }
@@ -227,39 +215,36 @@ pub(crate) fn set_attributes<M: Machine>(
     let pid = session.caller(copy)?;
     let link = is_known_link(session.server.kind_of(ino));
     let now = asked.now;
-    change_attributes(session, Act { now, pid, ino }, link, changes)?;
-    tell_times(session, asked, pid, ino, link, changes)
+    let act = Act { now, pid, ino };
+    change_attributes(session, act, link, changes)?;
+    tell_times(session, asked, act, link, changes)
 }
 
 // Times, and what is there then.
 fn tell_times<M: Machine>(
     session: &mut Session<M>,
     asked: &Asked,
-    pid: usize,
-    ino: u32,
+    act: Act,
     link: bool,
     changes: &AttrChanges,
-) -> Result<ReplyBody, RequestError>
+) -> Replied
     requires { 1 ≤ session.old.server.room }
-    ensures { Did M.Serves (tell_times asked.entry.now pid ino link changes.now) session.old session.new result }
+    ensures { Did M.Serves (tell_times asked.entry.now act.pid act.ino link changes.now) session.old session.new result }
 {
-    let status = session.look(ino)?;
-    set_times(session, asked, pid, ino, link, status, changes)?;
+    let status = session.look(act.ino)?;
+    set_times(session, asked, act, link, status, changes)?;
     tell_attributes(session, status)
 }
 
 /// The target of a link.
-pub(crate) fn read_link<M: Machine>(
-    session: &mut Session<M>,
-    asked: &Asked,
-) -> Result<ReplyBody, RequestError>
+pub(crate) fn read_link<M: Machine>(session: &mut Session<M>, asked: &Asked) -> Replied
     ensures { Did M.Serves (read_link asked.entry.now) session.old session.new result }
 {
     let ino = session.the_number(asked.node)?;
     tell_target(session, ino)
 }
 
-fn tell_target<M: Machine>(session: &mut Session<M>, ino: u32) -> Result<ReplyBody, RequestError>
+fn tell_target<M: Machine>(session: &mut Session<M>, ino: u32) -> Replied
     ensures { Did M.Serves (tell_target ino) session.old session.new result }
 {
     let call = Call::Readlink(session.blank_path());
@@ -276,7 +261,7 @@ fn access_as<M: Machine>(
     who: Option<Cred>,
     ino: u32,
     perms: Perms,
-) -> Result<(), RequestError>
+) -> Tried<()>
     requires { 1 ≤ session.old.server.room }
     ensures did { Did M.Serves (access_as who ino perms) session.old session.new result }
     ensures room { session.old.server.room ≤ session.new.server.room + 1 }
@@ -293,7 +278,7 @@ pub(crate) fn access_if<M: Machine>(
     who: Option<Cred>,
     ino: u32,
     perms: Perms,
-) -> Result<(), RequestError>
+) -> Tried<()>
     requires { 1 ≤ session.old.server.room }
     ensures did { Did M.Serves (when condition (access_as who ino perms)) session.old session.new result }
     ensures room { session.old.server.room ≤ session.new.server.room + 1 }
@@ -305,11 +290,7 @@ pub(crate) fn access_if<M: Machine>(
 }
 
 /// Whether permissions are granted: on a link each.
-pub(crate) fn ask_access<M: Machine>(
-    session: &mut Session<M>,
-    asked: Asked,
-    mask: u32,
-) -> Result<ReplyBody, RequestError>
+pub(crate) fn ask_access<M: Machine>(session: &mut Session<M>, asked: Asked, mask: u32) -> Replied
     requires room { 1 ≤ session.old.server.room }
     ensures { Did M.Serves (ask_access asked mask) session.old session.new result }
 {
@@ -342,7 +323,7 @@ fn set_stamps<M: Machine>(
     ino: u32,
     status: Status,
     changes: &AttrChanges,
-) -> Result<(), RequestError>
+) -> Tried<()>
     requires { 1 ≤ session.old.server.room }
     ensures { Did M.Serves (set_stamps now ino status changes.now) session.old session.new result }
 {

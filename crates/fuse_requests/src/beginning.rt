@@ -5,7 +5,7 @@ ghost use Rattle.fuse_plans.specs.Serving.{or_server_process, begin};
 ghost use Rattle.fuse_sessions.specs.Performing.{Did};
 
 use fs_cred::Cred;
-use fuse_plans::{ReplyBody, RequestError};
+use fuse_plans::{Replied, RequestError, Tried};
 use fuse_protocol::Offer;
 use fuse_sessions::{Session, ask_spawn};
 use fuse_steps::Machine;
@@ -17,7 +17,7 @@ use fuse_steps::replies::pid_of_reply;
 const VERSION: u32 = 7;
 
 // The server's own process begins, unless it has.
-fn or_server_process<M: Machine>(session: &mut Session<M>, own: &Cred) -> Result<(), RequestError>
+fn or_server_process<M: Machine>(session: &mut Session<M>, own: &Cred) -> Tried<()>
     requires { own.now ≡ usual_credential 0 0 [] }
     ensures did { Did M.Serves (or_server_process session.old.server.server.server_process) session.old session.new result }
     ensures room { session.old.server.room ≤ session.new.server.room }
@@ -29,10 +29,7 @@ fn or_server_process<M: Machine>(session: &mut Session<M>, own: &Cred) -> Result
 }
 
 // The server's own process begins.
-fn begin_server_process<M: Machine>(
-    session: &mut Session<M>,
-    own: &Cred,
-) -> Result<(), RequestError>
+fn begin_server_process<M: Machine>(session: &mut Session<M>, own: &Cred) -> Tried<()>
     requires { own.now ≡ usual_credential 0 0 [] }
     ensures did { Did M.Serves (or_server_process None) session.old session.new result }
     ensures room { session.old.server.room ≤ session.new.server.room }
@@ -48,11 +45,7 @@ fn begin_server_process<M: Machine>(
 }
 
 /// The first request. The credential is that of the server's own process.
-pub(crate) fn begin<M: Machine>(
-    session: &mut Session<M>,
-    offer: &Offer,
-    own: &Cred,
-) -> Result<ReplyBody, RequestError>
+pub(crate) fn begin<M: Machine>(session: &mut Session<M>, offer: &Offer, own: &Cred) -> Replied
     requires { own.now ≡ usual_credential 0 0 [] }
     ensures { Did M.Serves (begin offer.now) session.old session.new result }
 {

@@ -9,16 +9,16 @@ ghost use Rattle.fuse_sessions.specs.Performing.{Did};
 use crate::attributes::access_if;
 use bitflags::Flags as _;
 use fs_model::{Call, Listing};
-use fuse_plans::{Asked, ReplyBody, RequestError};
+use fuse_plans::{Asked, Replied, ReplyBody, RequestError, Tried};
 use fuse_protocol::{Extent, OpenedFlags};
 use fuse_sessions::{Session, has_dentry};
 use fuse_state::{Server, Settings};
-use fuse_steps::Machine;
 use fuse_steps::cursor::in_order;
 use fuse_steps::directory::list_and_close;
 use fuse_steps::flags::listing;
 use fuse_steps::listing::listing_bytes;
 use fuse_steps::replies::fd_of_reply;
+use fuse_steps::{Machine, OpenFile};
 use posix_acl::Perms;
 
 // What the kernel may keep of a directory that is opened.
@@ -41,10 +41,7 @@ fn opened_body(server: &Server, handle: u64) -> ReplyBody
 }
 
 /// Opens a directory, for reading by who asks; of one that was removed nothing is asked.
-pub(crate) fn open_directory<M: Machine>(
-    session: &mut Session<M>,
-    asked: Asked,
-) -> Result<ReplyBody, RequestError>
+pub(crate) fn open_directory<M: Machine>(session: &mut Session<M>, asked: Asked) -> Replied
     requires room { 2 ≤ session.old.server.room }
     ensures { Did M.Serves (open_directory asked) session.old session.new result }
 {
@@ -59,11 +56,7 @@ pub(crate) fn open_directory<M: Machine>(
 }
 
 // Where the user may open one more.
-fn take_directory<M: Machine>(
-    session: &mut Session<M>,
-    owner: u32,
-    ino: u32,
-) -> Result<ReplyBody, RequestError>
+fn take_directory<M: Machine>(session: &mut Session<M>, owner: u32, ino: u32) -> Replied
     requires { 1 ≤ session.old.server.room }
     ensures { Did M.Serves (take_directory owner ino) session.old session.new result }
 {
@@ -76,7 +69,7 @@ fn take_directory<M: Machine>(
 }
 
 // The names in a directory, as the server's own process sees them.
-fn list_all<M: Machine>(session: &mut Session<M>, ino: u32) -> Result<Listing, RequestError>
+fn list_all<M: Machine>(session: &mut Session<M>, ino: u32) -> Tried<Listing>
     ensures did { Did M.Serves (list_all ino true) session.old session.new result }
     ensures kept { session.new.server ≡ session.old.server }
 {
@@ -88,11 +81,11 @@ fn list_all<M: Machine>(session: &mut Session<M>, ino: u32) -> Result<Listing, R
     let Some(fd) = fd else {
         return Err(RequestError::EIO);
     };
-    list_and_close(&mut session.machine, pid, fd)
+    list_and_close(&mut session.machine, OpenFile { pid, fd })
 }
 
 // A directory that was removed has no names.
-fn list_by_dentries<M: Machine>(session: &mut Session<M>, ino: u32) -> Result<Listing, RequestError>
+fn list_by_dentries<M: Machine>(session: &mut Session<M>, ino: u32) -> Tried<Listing>
     ensures did { Did M.Serves (list_all ino (has_dentry session.old.server.server ino)) session.old session.new result }
     ensures kept { session.new.server ≡ session.old.server }
 {
@@ -108,7 +101,7 @@ pub(crate) fn list_kept<M: Machine>(
     session: &mut Session<M>,
     node: u64,
     extent: Extent,
-) -> Result<(), RequestError>
+) -> Tried<()>
     requires { 1 ≤ session.old.server.room }
     ensures listed { OnOk result (Listed M.Serves (list_kept node extent) session.old session.new extent.handle) }
     ensures failed { IfErr result (λ e. Did M.Serves (list_kept node extent) session.old session.new (Err e)) }
@@ -130,7 +123,7 @@ fn list_now<M: Machine>(
     node: u64,
     handle: u64,
     open_ino: u32,
-) -> Result<(), RequestError>
+) -> Tried<()>
     requires known { IsSome (directory_of session.old.server.server handle) }
     requires room { 1 ≤ session.old.server.room }
     ensures listed { OnOk result (Listed M.Serves (list_now node handle open_ino) session.old session.new handle) }
@@ -152,7 +145,7 @@ pub(crate) fn read_directory<M: Machine>(
     node: u64,
     extent: Extent,
     room: Vec<u8>,
-) -> Result<ReplyBody, RequestError>
+) -> Replied
     requires empty { room.items ≡ [] }
     requires capacity { extent.size ≤ vec_capacity room }
     requires room { 1 ≤ session.old.server.room }
@@ -166,10 +159,7 @@ pub(crate) fn read_directory<M: Machine>(
 }
 
 /// A directory is closed.
-pub(crate) fn close_directory<M: Machine>(
-    session: &mut Session<M>,
-    handle: u64,
-) -> Result<ReplyBody, RequestError>
+pub(crate) fn close_directory<M: Machine>(session: &mut Session<M>, handle: u64) -> Replied
     ensures { Did M.Serves (close_directory handle) session.old session.new result }
 {
     session.server.remove_directory(handle);

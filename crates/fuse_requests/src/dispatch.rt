@@ -21,7 +21,7 @@ use crate::names::{add_link, make_directory, make_file, make_link, move_name, re
 use crate::whole::{count_space, end, sync_all};
 use crate::xattrs::{get_xattr, list_xattrs, remove_xattr, set_xattr};
 use fs_model::Path;
-use fuse_plans::{Asked, ReplyBody, RequestError, Response};
+use fuse_plans::{Asked, Replied, RequestError, Response};
 use fuse_protocol::{Extent, Operation, Piece};
 use fuse_sessions::Session;
 use fuse_sessions::listing::LEAST_RECORD;
@@ -34,7 +34,7 @@ use posix_acl::Acl;
 use std::alloc::AllocError;
 
 // The answer to a request.
-fn response_of(done: Result<ReplyBody, RequestError>) -> Response
+fn response_of(done: Replied) -> Response
     ensures { result ≡ response_of done }
 {
     match done {

@@ -14,11 +14,10 @@ use crate::names::{Place, new_place};
 use bitflags::Flags as _;
 use fs_cred::Errno;
 use fs_model::{Call, Event, Path, Reply, Stamps, Status};
-use fuse_plans::{Asked, Mode, ReplyBody, RequestError};
+use fuse_plans::{Asked, Mode, Replied, ReplyBody, RequestError, Tried};
 use fuse_protocol::{Extent, OpenFlags, OpenedFlags, Time};
 use fuse_sessions::Session;
 use fuse_state::{Dentry, Server, Settings, descriptor_of, owner_of};
-use fuse_steps::Machine;
 use fuse_steps::asker::{inside, obtain, obtain_once, or_closed};
 use fuse_steps::directory::set_umask;
 use fuse_steps::flags::{creating, is_excl, is_exec, is_trunc, opening};
@@ -26,6 +25,7 @@ use fuse_steps::name::{attributes, dentry, plain_name};
 use fuse_steps::replies::{fd_of_reply, handle_within};
 use fuse_steps::runs::{WriteRoom, read_bytes, seek, write_runs};
 use fuse_steps::seen::{confirm_open, show_open};
+use fuse_steps::{Machine, OpenFile};
 use posix_acl::Perms;
 
 // By which flags a file is opened, and for what.
@@ -108,7 +108,7 @@ fn or_opened<M: Machine>(
     name: Path,
     way: Way,
     error: RequestError,
-) -> (Result<(Reply, bool), RequestError>, Path)
+) -> (Tried<(Reply, bool)>, Path)
     ensures did { DidByMachine M.Serves (or_opened pid dir_ino name way.mode way.flags.0 (Err error)) machine.old machine.new result.0 }
     ensures name { result.1 ≡ name }
 {
@@ -131,7 +131,7 @@ fn open_or_make<M: Machine>(
     name: Path,
     way: Way,
     file_mode: u32,
-) -> (Result<(Reply, bool), RequestError>, Path)
+) -> (Tried<(Reply, bool)>, Path)
     ensures did { DidByMachine M.Serves (open_or_make pid dir_ino name way.mode way.flags.0 file_mode) machine.old machine.new result.0 }
     ensures name { result.1 ≡ name }
 {
@@ -144,25 +144,16 @@ fn open_or_make<M: Machine>(
 }
 
 // What open(2) doesn't ask is asked first.
-fn ask_first<M: Machine>(
-    session: &mut Session<M>,
-    pid: usize,
-    ino: u32,
-    flags: OpenFlags,
-) -> Result<(), RequestError>
-    ensures did { Did M.Serves (ask_first pid ino flags.0) session.old session.new result }
+fn ask_first<M: Machine>(session: &mut Session<M>, act: Act, flags: OpenFlags) -> Tried<()>
+    ensures did { Did M.Serves (ask_first act.pid act.ino flags.0) session.old session.new result }
     ensures kept { session.new.server ≡ session.old.server }
 {
     let run = Call::Access(session.blank_path(), Perms::from_digit(1));
-    session.on_if(is_exec(flags), pid, ino, run)
+    session.on_if(is_exec(flags), act.pid, act.ino, run)
 }
 
 // Opens an object, and no other that its name may lead to: its handle.
-fn open_object<M: Machine>(
-    session: &mut Session<M>,
-    act: Act,
-    way: Way,
-) -> Result<u64, RequestError>
+fn open_object<M: Machine>(session: &mut Session<M>, act: Act, way: Way) -> Tried<u64>
     requires { 2 ≤ session.old.server.room }
     ensures { Did M.Serves (open_object act.now act.pid act.ino way.flags.0 way.mode) session.old session.new result }
 {
@@ -174,7 +165,8 @@ fn open_object<M: Machine>(
         return Err(RequestError::EIO);
     };
     let (fd, is_cut) = (descriptor_of(handle), is_trunc(way.flags));
-    confirm_open(&mut session.machine, act.pid, fd, act.ino, is_cut)?;
+    let file = OpenFile { pid: act.pid, fd };
+    confirm_open(&mut session.machine, file, act.ino, is_cut)?;
     touch_if(&mut session.server, is_cut, act.now, act.ino);
     session.server.add_handle(handle, act.ino);
     Ok(handle)
@@ -185,7 +177,7 @@ pub(crate) fn open_file<M: Machine>(
     session: &mut Session<M>,
     asked: Asked,
     flags: OpenFlags,
-) -> Result<ReplyBody, RequestError>
+) -> Replied
     requires room { 3 ≤ session.old.server.room }
     ensures { Did M.Serves (open_file asked flags.0) session.old session.new result }
 {
@@ -199,60 +191,62 @@ pub(crate) fn open_file<M: Machine>(
 }
 
 // Opens a file, once it is granted.
-fn open_granted<M: Machine>(
-    session: &mut Session<M>,
-    act: Act,
-    way: Way,
-) -> Result<ReplyBody, RequestError>
+fn open_granted<M: Machine>(session: &mut Session<M>, act: Act, way: Way) -> Replied
     requires { 2 ≤ session.old.server.room }
     ensures { Did M.Serves (open_granted act.now act.pid act.ino way.flags.0 way.mode) session.old session.new result }
 {
-    ask_first(session, act.pid, act.ino, way.flags)?;
+    ask_first(session, act, way.flags)?;
     let handle = open_object(session, act, way)?;
     Ok(opened_body(&session.server, handle))
 }
 
+// What stat(2) shows, and the times, where the machine keeps any.
+type Timed = (Status, Option<Stamps>);
+
 // What stat(2) shows of what is open, and its times.
-fn show_timed<M: Machine>(
-    session: &mut Session<M>,
-    pid: usize,
-    fd: usize,
-) -> Result<(Status, Option<Stamps>), RequestError>
-    ensures did { Did M.Serves (show_timed pid fd) session.old session.new result }
+fn show_timed<M: Machine>(session: &mut Session<M>, file: OpenFile) -> Tried<Timed>
+    ensures did { Did M.Serves (show_timed file.pid file.fd) session.old session.new result }
     ensures kept { session.new.server ≡ session.old.server }
 {
-    let status = show_open(&mut session.machine, pid, fd)?;
+    let status = show_open(&mut session.machine, file)?;
     let stamps = session.told_stamps(status.ino)?;
     Ok((status, stamps))
 }
 
 // What stat(2) shows of what is open, and its times; where nothing is shown that is closed.
-fn look_open<M: Machine>(
-    session: &mut Session<M>,
-    pid: usize,
-    fd: usize,
-) -> Result<(Status, Option<Stamps>), RequestError>
-    ensures did { Did M.Serves (look_open pid fd) session.old session.new result }
+fn look_open<M: Machine>(session: &mut Session<M>, file: OpenFile) -> Tried<Timed>
+    ensures did { Did M.Serves (look_open file.pid file.fd) session.old session.new result }
     ensures kept { session.new.server ≡ session.old.server }
 {
-    let seen = show_timed(session, pid, fd);
-    or_closed(&mut session.machine, pid, fd, seen)
+    let seen = show_timed(session, file);
+    or_closed(&mut session.machine, file, seen)
 }
 
-// What was opened by a name is told, and whether it is new.
+// What was opened by a name: whether it is new, and whether its bytes are gone.
+#[derive(Clone, Copy)]
+struct Opened {
+    handle: u64,
+    seen: Timed,
+    is_new: bool,
+    is_cut: bool,
+}
+
+// What was opened by a name is told.
 fn tell_created<M: Machine>(
     session: &mut Session<M>,
     place: Place,
     dentry: Dentry,
-    is_new: bool,
-    is_cut: bool,
-    handle: u64,
-    seen: (Status, Option<Stamps>),
-) -> Result<ReplyBody, RequestError>
+    opened: Opened,
+) -> Replied
     requires { 5 ≤ session.old.server.room }
-    ensures { Did M.Serves (tell_created place.now place.name_valid dentry is_new is_cut handle seen) session.old session.new result }
+    ensures { Did M.Serves (tell_created place.now place.name_valid dentry opened.is_new opened.is_cut opened.handle opened.seen) session.old session.new result }
 {
-    let (status, stamps) = seen;
+    let Opened {
+        handle,
+        seen: (status, stamps),
+        is_new,
+        is_cut,
+    } = opened;
     session
         .server
         .note_opened(place.now, dentry, status.ino, status.kind, is_new, is_cut);
@@ -268,7 +262,7 @@ pub(crate) fn create_file<M: Machine>(
     flags: OpenFlags,
     file_mode: u32,
     umask: u32,
-) -> Result<ReplyBody, RequestError>
+) -> Replied
     requires room { 6 ≤ session.old.server.room }
     ensures { Did M.Serves (create_file asked name flags.0 file_mode umask) session.old session.new result }
 {
@@ -291,7 +285,7 @@ fn create_by<M: Machine>(
     name: Path,
     way: Way,
     file_mode: u32,
-) -> Result<ReplyBody, RequestError>
+) -> Replied
     requires { 5 ≤ session.old.server.room }
     ensures { let plan = create_by place.now place.name_valid pid place.dir_ino name way.mode way.flags.0 file_mode in
         Did M.Serves plan session.old session.new result }
@@ -310,14 +304,20 @@ fn create_by<M: Machine>(
     let Some(handle) = handle_within(pid, fd) else {
         return Err(RequestError::EIO);
     };
-    let seen = look_open(session, pid, descriptor_of(handle))?;
+    let fd = descriptor_of(handle);
+    let seen = look_open(session, OpenFile { pid, fd })?;
     let dentry = dentry(place.dir_ino, name);
-    let is_cut = is_trunc(way.flags);
-    tell_created(session, place, dentry, is_new, is_cut, handle, seen)
+    let opened = Opened {
+        handle,
+        seen,
+        is_new,
+        is_cut: is_trunc(way.flags),
+    };
+    tell_created(session, place, dentry, opened)
 }
 
 // The inode that is open at a handle.
-fn the_open<M: Machine>(session: &Session<M>, handle: u64) -> Result<u32, RequestError>
+fn the_open<M: Machine>(session: &Session<M>, handle: u64) -> Tried<u32>
     ensures { Did M.Serves (the_open handle) session.now session.now result }
 {
     session.server.object_of(handle).ok_or(RequestError::EBADF)
@@ -328,7 +328,7 @@ pub(crate) fn call_open<M: Machine>(
     session: &mut Session<M>,
     handle: u64,
     call: Call,
-) -> Result<Reply, RequestError>
+) -> Tried<Reply>
     ensures did { Did M.Serves (call_open handle call) session.old session.new result }
     ensures kept { session.new.server ≡ session.old.server }
 {
@@ -342,22 +342,12 @@ pub(crate) fn call_open<M: Machine>(
 }
 
 // Seeks in the directory that is open at a handle; the answer is its inode.
-fn seek_open<M: Machine>(
-    session: &mut Session<M>,
-    handle: u64,
-    offset: u64,
-) -> Result<u32, RequestError>
+fn seek_open<M: Machine>(session: &mut Session<M>, handle: u64, offset: u64) -> Tried<u32>
     ensures did { Did M.Serves (seek_open handle offset) session.old session.new result }
     ensures kept { session.new.server ≡ session.old.server }
 {
     let ino = the_open(session, handle)?;
-    seek(
-        &mut session.machine,
-        owner_of(handle),
-        descriptor_of(handle),
-        offset,
-    )?
-    .discard();
+    seek(&mut session.machine, OpenFile::of_handle(handle), offset)?.discard();
     Ok(ino)
 }
 
@@ -366,15 +356,14 @@ pub(crate) fn read_file<M: Machine>(
     session: &mut Session<M>,
     extent: Extent,
     room: Vec<u8>,
-) -> Result<ReplyBody, RequestError>
+) -> Replied
     requires empty { room.items ≡ [] }
     requires capacity { run_limit < extent.size → extent.size ≤ vec_capacity room }
     ensures { Did M.Serves (read_file extent) session.old session.new result }
 {
     let _inode = seek_open(session, extent.handle, extent.offset)?;
-    let pid = owner_of(extent.handle);
-    let fd = descriptor_of(extent.handle);
-    let bytes = read_bytes(&mut session.machine, pid, fd, extent.size as usize, room)?;
+    let file = OpenFile::of_handle(extent.handle);
+    let bytes = read_bytes(&mut session.machine, file, extent.size as usize, room)?;
     Ok(ReplyBody::Bytes(bytes))
 }
 
@@ -386,7 +375,7 @@ pub(crate) fn write_file<M: Machine>(
     offset: u64,
     bytes: &[u8],
     room: WriteRoom,
-) -> Result<ReplyBody, RequestError>
+) -> Replied
     requires room { 1 ≤ session.old.server.room }
     requires run { min (length bytes.now) write_limit ≤ length room.run }
     requires piece { min (length bytes.now) move_limit ≤ length room.piece }
@@ -395,18 +384,14 @@ pub(crate) fn write_file<M: Machine>(
         Did M.Serves plan session.old session.new result }
 {
     let ino = seek_open(session, handle, offset)?;
-    let pid = owner_of(handle);
-    let fd = descriptor_of(handle);
-    let count = write_runs(&mut session.machine, pid, fd, bytes, room)?;
+    let file = OpenFile::of_handle(handle);
+    let count = write_runs(&mut session.machine, file, bytes, room)?;
     session.server.touch(now, ino);
     Ok(ReplyBody::Wrote(count))
 }
 
 /// A handle is closed.
-pub(crate) fn close_file<M: Machine>(
-    session: &mut Session<M>,
-    handle: u64,
-) -> Result<ReplyBody, RequestError>
+pub(crate) fn close_file<M: Machine>(session: &mut Session<M>, handle: u64) -> Replied
     ensures { Did M.Serves (close_file handle) session.old session.new result }
 {
     let call = Call::Close(descriptor_of(handle));
@@ -416,10 +401,7 @@ pub(crate) fn close_file<M: Machine>(
 }
 
 /// What was written by a handle is to last.
-pub(crate) fn sync_file<M: Machine>(
-    session: &mut Session<M>,
-    handle: u64,
-) -> Result<ReplyBody, RequestError>
+pub(crate) fn sync_file<M: Machine>(session: &mut Session<M>, handle: u64) -> Replied
     ensures { Did M.Serves (sync_file handle) session.old session.new result }
 {
     let _inode = the_open(session, handle)?;

@@ -1,17 +1,17 @@
 //! READDIRPLUS: the names of an open directory, each looked up by the server's own process.
-ghost use Rattle.std.specs.Prelude.{◌≡◌, ℕ, List, ◌+◌, ◌-◌, ◌*◌, ◌/◌, ◌<◌, ◌≤◌, ◌^◌, [], length, vec_len, vec_capacity, Some, Ok, IsSome, IsNone, IfSome};
+ghost use Rattle.std.specs.Prelude.{◌≡◌, ℕ, List, ◌+◌, ◌-◌, ◌*◌, ◌/◌, ◌<◌, ◌≤◌, ◌^◌, length, vec_len, vec_capacity, Some, Ok, IsSome, IsNone, IfSome};
 ghost use Rattle.fuse_protocol.specs.Entries.{record_size};
 ghost use Rattle.fuse_state.specs.Servers.{listing_of, named_at};
 ghost use Rattle.fuse_plans.specs.ListingOrder.{behind, offset_behind};
 ghost use Rattle.fuse_plans.specs.Works.{attempt};
 ghost use Rattle.fuse_plans.specs.ListingPlans.{find_in_place, find_listed, look_up_names, names_within, records_bytes, LookedUp, read_directory_plus};
 ghost use Rattle.fuse_sessions.specs.Listings.{IsCopy};
-ghost use Rattle.fuse_requests.specs.Listings.{ToldOne};
+ghost use Rattle.fuse_requests.specs.Listings.{HasRoom, ToldOne};
 ghost use Rattle.fuse_sessions.specs.Performing.{Did};
 
 use crate::directories::list_kept;
 use fs_model::{Bytes, Path};
-use fuse_plans::{Asked, ReplyBody, RequestError};
+use fuse_plans::{Asked, Replied, ReplyBody, RequestError, Tried};
 use fuse_protocol::Extent;
 use fuse_sessions::Session;
 use fuse_sessions::listing::{LEAST_RECORD, begin_behind, copy_fitting, named_at};
@@ -25,9 +25,9 @@ use fuse_steps::name_room::NameRoom;
 fn find_in_place<M: Machine>(
     session: &mut Session<M>,
     needs_nobody: bool,
-    place: Result<u32, RequestError>,
+    place: Tried<u32>,
     name: Path,
-) -> Result<ReplyBody, RequestError>
+) -> Replied
     requires { 2 ≤ session.old.server.room }
     ensures did { Did M.Serves (find_in_place needs_nobody place name) session.old session.new result }
     ensures room { session.old.server.room ≤ session.new.server.room + 2 }
@@ -43,9 +43,9 @@ fn find_in_place<M: Machine>(
 fn find_copy<M: Machine>(
     session: &mut Session<M>,
     needs_nobody: bool,
-    place: Result<u32, RequestError>,
+    place: Tried<u32>,
     copy: Option<Path>,
-) -> Result<ReplyBody, RequestError>
+) -> Replied
     requires { 2 ≤ session.old.server.room }
     ensures did { (name : List ℕ) → IsCopy name copy →
         Did M.Serves (attempt (find_listed needs_nobody place name)) session.old session.new (Ok result) }
@@ -63,7 +63,7 @@ fn find_copy<M: Machine>(
 fn tell_named<M: Machine>(
     session: &mut Session<M>,
     needs_nobody: bool,
-    place: Result<u32, RequestError>,
+    place: Tried<u32>,
     extent: Extent,
     cursor: Cursor,
     names: &mut NameRoom,
@@ -103,14 +103,12 @@ fn tell_named<M: Machine>(
 fn look_up_names<M: Machine>(
     session: &mut Session<M>,
     needs_nobody: bool,
-    place: Result<u32, RequestError>,
+    place: Tried<u32>,
     extent: Extent,
     room: Vec<u8>,
     names: NameRoom,
 ) -> Bytes
-    requires empty { room.items ≡ [] }
-    requires capacity { extent.size ≤ vec_capacity room }
-    requires names { extent.size ≤ LEAST_RECORD * names + (LEAST_RECORD - 1) }
+    requires fits { HasRoom extent.size room.items (vec_capacity room) names }
     requires room { 2 * names ≤ session.old.server.room }
     ensures { (listing : List (List ℕ × ℕ)) → listing_of session.old.server.server extent.handle ≡ Some listing →
         (found : List LookedUp) × (result ≡ records_bytes found)
@@ -140,10 +138,8 @@ pub(crate) fn read_directory_plus<M: Machine>(
     extent: Extent,
     room: Vec<u8>,
     names: NameRoom,
-) -> Result<ReplyBody, RequestError>
-    requires empty { room.items ≡ [] }
-    requires capacity { extent.size ≤ vec_capacity room }
-    requires names { extent.size ≤ LEAST_RECORD * names + (LEAST_RECORD - 1) }
+) -> Replied
+    requires fits { HasRoom extent.size room.items (vec_capacity room) names }
     requires room { 2 * names + 1 ≤ session.old.server.room }
     ensures { let asked = asked.entry.now in
         Did M.Serves (read_directory_plus asked.needs_nobody asked.node extent) session.old session.new result }

@@ -5,7 +5,7 @@ ghost use Rattle.fuse_plans.specs.Paths.{name_in};
 ghost use Rattle.fuse_sessions.specs.Performing.{Did};
 
 use fs_model::{Call, Path};
-use fuse_plans::{Asked, ReplyBody, RequestError};
+use fuse_plans::{Asked, Replied, ReplyBody, RequestError, Tried};
 use fuse_protocol::Time;
 use fuse_sessions::Session;
 use fuse_state::Dentry;
@@ -40,11 +40,7 @@ pub(crate) fn new_place<M: Machine>(session: &mut Session<M>, now: Time, dir_ino
 }
 
 // The directory of a name that is asked for.
-fn directory_for<M: Machine>(
-    session: &Session<M>,
-    node: u64,
-    name: &Path,
-) -> Result<u32, RequestError>
+fn directory_for<M: Machine>(session: &Session<M>, node: u64, name: &Path) -> Tried<u32>
     ensures { Did M.Serves (directory_for node name.now) session.now session.now result }
 {
     plain_name(name)?;
@@ -56,7 +52,7 @@ fn directory_and_caller<M: Machine>(
     session: &mut Session<M>,
     asked: Asked,
     name: &Path,
-) -> Result<(u32, usize), RequestError>
+) -> Tried<(u32, usize)>
     requires room { 1 ≤ session.old.server.room }
     ensures did { Did M.Serves (directory_and_caller asked name.now) session.old session.new result }
     ensures room { session.old.server.room ≤ session.new.server.room + 1 }
@@ -67,11 +63,7 @@ fn directory_and_caller<M: Machine>(
 }
 
 // What has just been made, as the server's own process sees it.
-fn made<M: Machine>(
-    session: &mut Session<M>,
-    place: Place,
-    name: Path,
-) -> Result<ReplyBody, RequestError>
+fn made<M: Machine>(session: &mut Session<M>, place: Place, name: Path) -> Replied
     requires { 4 ≤ session.old.server.room }
     ensures { Did M.Serves (made place.now place.name_valid place.dir_ino name) session.old session.new result }
 {
@@ -88,12 +80,7 @@ fn made<M: Machine>(
 }
 
 // A call makes what has the name in it.
-fn make_by<M: Machine>(
-    session: &mut Session<M>,
-    place: Place,
-    pid: usize,
-    call: Call,
-) -> Result<ReplyBody, RequestError>
+fn make_by<M: Machine>(session: &mut Session<M>, place: Place, pid: usize, call: Call) -> Replied
     requires name { IsSome (name_in call) }
     requires room { 4 ≤ session.old.server.room }
     ensures { (name : List ℕ) → name_in call ≡ Some name →
@@ -114,7 +101,7 @@ fn make_masked<M: Machine>(
     umask: u32,
     pid: usize,
     call: Call,
-) -> Result<ReplyBody, RequestError>
+) -> Replied
     requires name { IsSome (name_in call) }
     requires room { 4 ≤ session.old.server.room }
     ensures { (name : List ℕ) → name_in call ≡ Some name →
@@ -138,7 +125,7 @@ pub(crate) fn make_link<M: Machine>(
     asked: Asked,
     name: Path,
     target: Path,
-) -> Result<ReplyBody, RequestError>
+) -> Replied
     requires room { 5 ≤ session.old.server.room }
     ensures { Did M.Serves (make_link asked name target) session.old session.new result }
 {
@@ -156,7 +143,7 @@ pub(crate) fn make_directory<M: Machine>(
     name: Path,
     mode: u32,
     umask: u32,
-) -> Result<ReplyBody, RequestError>
+) -> Replied
     requires room { 5 ≤ session.old.server.room }
     ensures { Did M.Serves (make_directory asked name mode umask) session.old session.new result }
 {
@@ -174,7 +161,7 @@ pub(crate) fn make_file<M: Machine>(
     name: Path,
     mode: u32,
     umask: u32,
-) -> Result<ReplyBody, RequestError>
+) -> Replied
     requires room { 5 ≤ session.old.server.room }
     ensures { Did M.Serves (make_file asked name mode umask) session.old session.new result }
 {
@@ -192,7 +179,7 @@ pub(crate) fn remove<M: Machine>(
     asked: Asked,
     name: Path,
     of_directory: bool,
-) -> Result<ReplyBody, RequestError>
+) -> Replied
     requires room { 3 ≤ session.old.server.room }
     ensures { Did M.Serves (remove asked (removal of_directory) name) session.old session.new result }
 {
@@ -205,12 +192,7 @@ pub(crate) fn remove<M: Machine>(
 }
 
 // The names may be asked for, and the flags.
-fn may_move<M: Machine>(
-    session: &Session<M>,
-    name: &Path,
-    new_name: &Path,
-    flags: u32,
-) -> Result<(), RequestError>
+fn may_move<M: Machine>(session: &Session<M>, name: &Path, new_name: &Path, flags: u32) -> Tried<()>
     ensures { Did M.Serves (may_move name.now new_name.now flags) session.now session.now result }
 {
     only_no_replace(flags)?;
@@ -225,7 +207,7 @@ fn rename<M: Machine>(
     pid: usize,
     old: Dentry,
     new: Dentry,
-) -> Result<ReplyBody, RequestError>
+) -> Replied
     requires { 5 ≤ session.old.server.room }
     ensures { Did M.Serves (rename now pid old new) session.old session.new result }
 {
@@ -257,7 +239,7 @@ pub(crate) fn move_name<M: Machine>(
     new_node: u64,
     new_name: Path,
     flags: u32,
-) -> Result<ReplyBody, RequestError>
+) -> Replied
     requires room { 6 ≤ session.old.server.room }
     ensures { Did M.Serves (move_name asked name new_node new_name flags) session.old session.new result }
 {
@@ -265,33 +247,42 @@ pub(crate) fn move_name<M: Machine>(
     let dir_ino = session.standing_directory(asked.node)?;
     let new = session.standing_directory(new_node)?;
     let pid = session.caller(asked.cred)?;
-    move_to(
-        session,
-        asked.now,
+    let old = dentry(dir_ino, name);
+    let target = Target {
+        dir_ino: new,
+        name: new_name,
         flags,
-        pid,
-        dentry(dir_ino, name),
-        new,
-        new_name,
-    )
+    };
+    move_to(session, asked.now, pid, old, target)
+}
+
+// The name that something gets, and whether that may be one that leads to something.
+#[derive(Drop)]
+struct Target {
+    dir_ino: u32,
+    name: Path,
+    flags: u32,
 }
 
 // What has a name gets another, if it may replace what is there.
 fn move_to<M: Machine>(
     session: &mut Session<M>,
     now: Time,
-    flags: u32,
     pid: usize,
     old: Dentry,
-    new: u32,
-    new_name: Path,
-) -> Result<ReplyBody, RequestError>
+    target: Target,
+) -> Replied
     requires { 5 ≤ session.old.server.room }
-    ensures { Did M.Serves (move_to now flags pid old new new_name) session.old session.new result }
+    ensures { Did M.Serves (move_to now target.flags pid old target.dir_ino target.name) session.old session.new result }
 {
-    let (free, new_name) = nothing_to_replace(&mut session.machine, flags, pid, new, new_name);
+    let Target {
+        dir_ino,
+        name,
+        flags,
+    } = target;
+    let (free, name) = nothing_to_replace(&mut session.machine, flags, pid, dir_ino, name);
     free?;
-    rename(session, now, pid, old, dentry(new, new_name))
+    rename(session, now, pid, old, dentry(dir_ino, name))
 }
 
 // An object gets one more name, by one of those that are known. The new one comes back.
@@ -301,7 +292,7 @@ fn link_by_dentry<M: Machine>(
     ino: u32,
     dir_ino: u32,
     name: Path,
-) -> (Result<(), RequestError>, Path)
+) -> (Tried<()>, Path)
     ensures did { Did M.Serves (link_by_dentry pid ino dir_ino name) session.old session.new result.0 }
     ensures name { result.1 ≡ name }
     ensures kept { session.new.server ≡ session.old.server }
@@ -316,12 +307,7 @@ fn link_by_dentry<M: Machine>(
 }
 
 // The object has the name too.
-fn tell_linked<M: Machine>(
-    session: &mut Session<M>,
-    now: Time,
-    dentry: Dentry,
-    ino: u32,
-) -> Result<ReplyBody, RequestError>
+fn tell_linked<M: Machine>(session: &mut Session<M>, now: Time, dentry: Dentry, ino: u32) -> Replied
     requires { 4 ≤ session.old.server.room }
     ensures { Did M.Serves (tell_linked now dentry ino) session.old session.new result }
 {
@@ -339,7 +325,7 @@ pub(crate) fn add_link<M: Machine>(
     asked: Asked,
     old_node: u64,
     name: Path,
-) -> Result<ReplyBody, RequestError>
+) -> Replied
     requires room { 5 ≤ session.old.server.room }
     ensures { Did M.Serves (add_link asked old_node name) session.old session.new result }
 {
@@ -355,7 +341,7 @@ fn link_as<M: Machine>(
     ino: u32,
     dir_ino: u32,
     name: Path,
-) -> Result<ReplyBody, RequestError>
+) -> Replied
     requires room { 5 ≤ session.old.server.room }
     ensures { Did M.Serves (link_as asked ino dir_ino name) session.old session.new result }
 {

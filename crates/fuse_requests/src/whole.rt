@@ -5,14 +5,14 @@ ghost use Rattle.fuse_plans.specs.Serving.{count_space, end};
 ghost use Rattle.fuse_sessions.specs.Performing.{Did};
 
 use fs_model::Event;
-use fuse_plans::{ReplyBody, RequestError};
+use fuse_plans::{Replied, ReplyBody, RequestError};
 use fuse_sessions::Session;
 use fuse_steps::Machine;
 use fuse_steps::asker::obtain;
 use fuse_steps::replies::space_of_reply;
 
 /// How much room there is.
-pub(crate) fn count_space<M: Machine>(session: &mut Session<M>) -> Result<ReplyBody, RequestError>
+pub(crate) fn count_space<M: Machine>(session: &mut Session<M>) -> Replied
     ensures did { Did M.Serves count_space session.old session.new result }
     ensures room { session.old.server.room ≤ session.new.server.room }
 {
@@ -33,7 +33,7 @@ pub(crate) fn count_space<M: Machine>(session: &mut Session<M>) -> Result<ReplyB
 }
 
 /// What was done before is to last.
-pub(crate) fn sync_all<M: Machine>(session: &mut Session<M>) -> Result<ReplyBody, RequestError>
+pub(crate) fn sync_all<M: Machine>(session: &mut Session<M>) -> Replied
     ensures did { Did M.Serves sync_all session.old session.new result }
     ensures room { session.old.server.room ≤ session.new.server.room }
 {
@@ -42,7 +42,7 @@ pub(crate) fn sync_all<M: Machine>(session: &mut Session<M>) -> Result<ReplyBody
 }
 
 /// The last request.
-pub(crate) fn end<M: Machine>(session: &mut Session<M>) -> Result<ReplyBody, RequestError>
+pub(crate) fn end<M: Machine>(session: &mut Session<M>) -> Replied
     ensures did { Did M.Serves end session.old session.new result }
     ensures room { session.old.server.room ≤ session.new.server.room }
 {

@@ -9,7 +9,7 @@ ghost use Rattle.fuse_sessions.specs.Performing.{Did};
 use crate::act::Act;
 use crate::attributes::is_known_link;
 use fs_model::{AclType, Bytes, Call, FileType};
-use fuse_plans::{Asked, ReplyBody, RequestError};
+use fuse_plans::{Asked, Replied, ReplyBody, RequestError, Tried};
 use fuse_sessions::{Session, has_dentry, is_known_directory};
 use fuse_state::Server;
 use fuse_steps::Machine;
@@ -35,7 +35,7 @@ fn is_misplaced(which: AclType, kind: Option<FileType>) -> bool
 }
 
 // An object that may have ACLs.
-fn an_object<M: Machine>(session: &Session<M>, asked: &Asked) -> Result<u32, RequestError>
+fn an_object<M: Machine>(session: &Session<M>, asked: &Asked) -> Tried<u32>
     ensures { Did M.Serves (an_object asked.entry.now) session.now session.now result }
 {
     let ino = session.the_number(asked.node)?;
@@ -52,7 +52,7 @@ pub(crate) fn get_xattr<M: Machine>(
     asked: &Asked,
     name: &[u8],
     size: u32,
-) -> Result<ReplyBody, RequestError>
+) -> Replied
     ensures { Did M.Serves (get_xattr asked.entry.now name.now size) session.old session.new result }
 {
     let which = the_acl(name)?;
@@ -61,12 +61,7 @@ pub(crate) fn get_xattr<M: Machine>(
 }
 
 // An ACL that is there, or how many bytes it has.
-fn tell_acl<M: Machine>(
-    session: &mut Session<M>,
-    ino: u32,
-    which: AclType,
-    size: u32,
-) -> Result<ReplyBody, RequestError>
+fn tell_acl<M: Machine>(session: &mut Session<M>, ino: u32, which: AclType, size: u32) -> Replied
     ensures { Did M.Serves (tell_acl ino which size) session.old session.new result }
 {
     let found = session.acl_of(ino, which)?;
@@ -83,7 +78,7 @@ fn attribute_names<M: Machine>(
     ino: u32,
     has: bool,
     names: AclNames,
-) -> Result<Bytes, RequestError>
+) -> Tried<Bytes>
     ensures did { Did M.Serves (attribute_names ino has) session.old session.new result }
     ensures kept { session.new.server ≡ session.old.server }
 {
@@ -103,7 +98,7 @@ pub(crate) fn list_xattrs<M: Machine>(
     asked: &Asked,
     size: u32,
     names: AclNames,
-) -> Result<ReplyBody, RequestError>
+) -> Replied
     ensures { Did M.Serves (list_xattrs asked.entry.now size) session.old session.new result }
 {
     let ino = session.the_number(asked.node)?;
@@ -113,18 +108,25 @@ pub(crate) fn list_xattrs<M: Machine>(
     sized(size, count, ReplyBody::Bytes(names))
 }
 
-// No access ACL: the three entries of the present mode, for which there is memory.
-fn acl_set<M: Machine>(
-    session: &mut Session<M>,
-    ino: u32,
+// The ACL that an object is to have, if any, with memory for the three entries of a mode.
+#[derive(Drop)]
+struct NewAcl {
     which: AclType,
     wanted: Option<Acl>,
     spare: Acl,
-) -> Result<Option<Acl>, RequestError>
-    requires { spare ≡ minimal 0 }
-    ensures did { Did M.Serves (acl_set ino which wanted) session.old session.new result }
+}
+
+// No access ACL: the three entries of the present mode.
+fn acl_set<M: Machine>(session: &mut Session<M>, ino: u32, new_acl: NewAcl) -> Tried<Option<Acl>>
+    requires { new_acl.spare ≡ minimal 0 }
+    ensures did { Did M.Serves (acl_set ino new_acl.which new_acl.wanted) session.old session.new result }
     ensures kept { session.new.server ≡ session.old.server }
 {
+    let NewAcl {
+        which,
+        wanted,
+        spare,
+    } = new_acl;
     if !is_plain(which, &wanted) {
         return Ok(wanted);
     }
@@ -133,39 +135,28 @@ fn acl_set<M: Machine>(
 }
 
 /// Sets an ACL, or removes it.
-fn set_acl<M: Machine>(
-    session: &mut Session<M>,
-    asked: Asked,
-    which: AclType,
-    wanted: Option<Acl>,
-    spare: Acl,
-) -> Result<ReplyBody, RequestError>
-    requires spare { spare ≡ minimal 0 }
+fn set_acl<M: Machine>(session: &mut Session<M>, asked: Asked, new_acl: NewAcl) -> Replied
+    requires spare { new_acl.spare ≡ minimal 0 }
     requires room { 2 ≤ session.old.server.room }
-    ensures { Did M.Serves (set_acl asked which wanted) session.old session.new result }
+    ensures { Did M.Serves (set_acl asked new_acl.which new_acl.wanted) session.old session.new result }
 {
     let ino = an_object(session, &asked)?;
-    if is_misplaced(which, session.server.kind_of(ino)) {
+    if is_misplaced(new_acl.which, session.server.kind_of(ino)) {
         return Err(RequestError::EACCES);
     }
     let pid = session.caller(asked.cred)?;
     let now = asked.now;
-    set_by(session, Act { now, pid, ino }, which, wanted, spare)
+    set_by(session, Act { now, pid, ino }, new_acl)
 }
 
 // A process sets it.
-fn set_by<M: Machine>(
-    session: &mut Session<M>,
-    act: Act,
-    which: AclType,
-    wanted: Option<Acl>,
-    spare: Acl,
-) -> Result<ReplyBody, RequestError>
-    requires spare { spare ≡ minimal 0 }
+fn set_by<M: Machine>(session: &mut Session<M>, act: Act, new_acl: NewAcl) -> Replied
+    requires spare { new_acl.spare ≡ minimal 0 }
     requires room { 1 ≤ session.old.server.room }
-    ensures { Did M.Serves (set_by act.now act.pid act.ino which wanted) session.old session.new result }
+    ensures { Did M.Serves (set_by act.now act.pid act.ino new_acl.which new_acl.wanted) session.old session.new result }
 {
-    let acl = acl_set(session, act.ino, which, wanted, spare)?;
+    let which = new_acl.which;
+    let acl = acl_set(session, act.ino, new_acl)?;
     let call = Call::SetAcl(session.blank_path(), which, acl);
     session.on_once(act.pid, act.ino, call)?.discard();
     session.server.change(act.now, act.ino);
@@ -179,16 +170,21 @@ pub(crate) fn set_xattr<M: Machine>(
     name: &[u8],
     value: Option<Option<Acl>>,
     spare: Acl,
-) -> Result<ReplyBody, RequestError>
+) -> Replied
     requires spare { spare ≡ minimal 0 }
     requires room { 2 ≤ session.old.server.room }
     ensures { Did M.Serves (set_xattr asked name.now value) session.old session.new result }
 {
     let which = the_acl(name)?;
-    let Some(acl) = value else {
+    let Some(wanted) = value else {
         return Err(RequestError::EINVAL);
     };
-    set_acl(session, asked, which, acl, spare)
+    let new_acl = NewAcl {
+        which,
+        wanted,
+        spare,
+    };
+    set_acl(session, asked, new_acl)
 }
 
 /// Removes an ACL.
@@ -197,11 +193,16 @@ pub(crate) fn remove_xattr<M: Machine>(
     asked: Asked,
     name: &[u8],
     spare: Acl,
-) -> Result<ReplyBody, RequestError>
+) -> Replied
     requires spare { spare ≡ minimal 0 }
     requires room { 2 ≤ session.old.server.room }
     ensures { Did M.Serves (remove_xattr asked name.now) session.old session.new result }
 {
     let which = the_acl(name)?;
-    set_acl(session, asked, which, None, spare)
+    let new_acl = NewAcl {
+        which,
+        wanted: None,
+        spare,
+    };
+    set_acl(session, asked, new_acl)
 }

@@ -9,7 +9,7 @@ ghost use Rattle.fuse_plans.specs.Works.{ask, is_refused_for};
 use crate::session::Session;
 use fs_cred::{Cred, Errno};
 use fs_model::{Event, Reply};
-use fuse_plans::RequestError;
+use fuse_plans::{RequestError, Tried};
 use fuse_steps::Machine;
 use fuse_steps::asker::{ask, unless_refused};
 use fuse_steps::replies::pid_of_reply;
@@ -33,7 +33,7 @@ pub fn ask_spawn<M: Machine>(machine: &mut M, cred: &Cred) -> Reply
 
 impl<M: Machine> Session<M> {
     // The process that a reply tells of.
-    fn settle(&mut self, cred: Cred, reply: Reply) -> Result<usize, RequestError>
+    fn settle(&mut self, cred: Cred, reply: Reply) -> Tried<usize>
         requires { 1 ≤ self.old.server.room }
         ensures did { Did M.Serves (settle cred reply) self.old self.new result }
         ensures room { self.old.server.room ≤ self.new.server.room + 1 }
@@ -74,7 +74,7 @@ impl<M: Machine> Session<M> {
     }
 
     // A new process, once those without descriptors have ended.
-    fn spawn_again(&mut self, cred: Cred) -> Result<usize, RequestError>
+    fn spawn_again(&mut self, cred: Cred) -> Tried<usize>
         requires { 1 ≤ self.old.server.room }
         ensures did { Did M.Serves (spawn_again cred) self.old self.new result }
         ensures room { self.old.server.room ≤ self.new.server.room + 1 }
@@ -85,7 +85,7 @@ impl<M: Machine> Session<M> {
     }
 
     // A new process.
-    fn begin_process(&mut self, cred: Cred) -> Result<usize, RequestError>
+    fn begin_process(&mut self, cred: Cred) -> Tried<usize>
         requires { 1 ≤ self.old.server.room }
         ensures did { Did M.Serves (begin_process cred) self.old self.new result }
         ensures room { self.old.server.room ≤ self.new.server.room + 1 }
@@ -100,7 +100,7 @@ impl<M: Machine> Session<M> {
     }
 
     // The process that was found, or a new one.
-    fn or_spawned(&mut self, cred: Cred, pid: Option<usize>) -> Result<usize, RequestError>
+    fn or_spawned(&mut self, cred: Cred, pid: Option<usize>) -> Tried<usize>
         requires { 1 ≤ self.old.server.room }
         ensures did { Did M.Serves (or_spawned cred pid) self.old self.new result }
         ensures room { self.old.server.room ≤ self.new.server.room + 1 }
@@ -112,7 +112,7 @@ impl<M: Machine> Session<M> {
     }
 
     /// A process of who asks; the credential is a copy of theirs.
-    pub fn caller(&mut self, who: Option<Cred>) -> Result<usize, RequestError>
+    pub fn caller(&mut self, who: Option<Cred>) -> Tried<usize>
         requires { 1 ≤ self.old.server.room }
         ensures did { Did M.Serves (caller who) self.old self.new result }
         ensures room { self.old.server.room ≤ self.new.server.room + 1 }
@@ -123,7 +123,7 @@ impl<M: Machine> Session<M> {
     }
 
     // A process that holds no descriptor, where one more of its user may hold some.
-    fn unused(&mut self, cred: Cred) -> Result<usize, RequestError>
+    fn unused(&mut self, cred: Cred) -> Tried<usize>
         requires { 1 ≤ self.old.server.room }
         ensures did { Did M.Serves (or_unused cred None) self.old self.new result }
         ensures room { self.old.server.room ≤ self.new.server.room + 1 }
@@ -136,7 +136,7 @@ impl<M: Machine> Session<M> {
     }
 
     /// A process of who asks that can hold one more descriptor; the credential is a copy of theirs.
-    pub fn caller_with_room(&mut self, who: Option<Cred>) -> Result<usize, RequestError>
+    pub fn caller_with_room(&mut self, who: Option<Cred>) -> Tried<usize>
         requires { 1 ≤ self.old.server.room }
         ensures did { Did M.Serves (caller_with_room who) self.old self.new result }
         ensures room { self.old.server.room ≤ self.new.server.room + 1 }
@@ -149,7 +149,7 @@ impl<M: Machine> Session<M> {
     }
 
     /// The server's own process.
-    pub fn the_server_process(&self) -> Result<usize, RequestError>
+    pub fn the_server_process(&self) -> Tried<usize>
         ensures { Did M.Serves the_server_process self.now self.now result }
     {
         self.server.server_process().ok_or(RequestError::EIO)

@@ -5,7 +5,7 @@ ghost use Rattle.fuse_sessions.specs.Performing.{Did};
 
 use crate::session::Session;
 use fs_model::{Path, Status};
-use fuse_plans::{Asked, ReplyBody, RequestError};
+use fuse_plans::{Asked, Replied, Tried};
 use fuse_steps::Machine;
 use fuse_steps::name::{
     dentry, keeps_names, looked_up_body, or_absent, or_keep_absent, plain_name, unless_hidden,
@@ -14,7 +14,7 @@ use fuse_steps::seen::look_inside;
 
 impl<M: Machine> Session<M> {
     /// What has a name in a directory.
-    pub fn find_name(&mut self, asked: Asked, name: Path) -> Result<ReplyBody, RequestError>
+    pub fn find_name(&mut self, asked: Asked, name: Path) -> Replied
         requires { 3 ≤ self.old.server.room }
         ensures { Did M.Serves (find_name asked name) self.old self.new result }
     {
@@ -25,7 +25,7 @@ impl<M: Machine> Session<M> {
     }
 
     // By whom a name is looked up: by the server's own process where nobody is needed.
-    fn searcher(&mut self, asked: Asked) -> Result<usize, RequestError>
+    fn searcher(&mut self, asked: Asked) -> Tried<usize>
         requires { 1 ≤ self.old.server.room }
         ensures did { Did M.Serves (searcher asked) self.old self.new result }
         ensures room { self.old.server.room ≤ self.new.server.room + 1 }
@@ -37,7 +37,7 @@ impl<M: Machine> Session<M> {
     }
 
     // The directory in which a name is looked for.
-    fn searched_directory(&self, node: u64, name: &Path) -> Result<u32, RequestError>
+    fn searched_directory(&self, node: u64, name: &Path) -> Tried<u32>
         ensures { Did M.Serves (searched_directory node name.now) self.now self.now result }
     {
         plain_name(name)?;
@@ -51,7 +51,7 @@ impl<M: Machine> Session<M> {
         pid: usize,
         dir_ino: u32,
         name: Path,
-    ) -> Result<ReplyBody, RequestError>
+    ) -> Replied
         requires { 2 ≤ self.old.server.room }
         ensures did { Did M.Serves (find_inside needs_nobody pid dir_ino name) self.old self.new result }
         ensures room { self.old.server.room ≤ self.new.server.room + 2 }
@@ -71,7 +71,7 @@ impl<M: Machine> Session<M> {
         dir_ino: u32,
         name: Path,
         status: Status,
-    ) -> Result<ReplyBody, RequestError>
+    ) -> Replied
         requires { 2 ≤ self.old.server.room }
         ensures did { Did M.Serves (found_or_absent needs_nobody dir_ino name (Ok status)) self.old self.new result }
         ensures room { self.old.server.room ≤ self.new.server.room + 2 }

@@ -8,7 +8,7 @@ ghost use Rattle.fuse_sessions.specs.Performing.{Did};
 
 use crate::session::Session;
 use fs_model::{AclType, Call, Status};
-use fuse_plans::{Mode, RequestError, WhoCounts, needs_caller};
+use fuse_plans::{Mode, RequestError, Tried, WhoCounts, needs_caller};
 use fuse_protocol::Operation;
 use fuse_steps::Machine;
 use fuse_steps::acls::{hides, may_hide};
@@ -67,7 +67,7 @@ impl<M: Machine> Session<M> {
 
     // Whether the user owns the object of a node, and the directory in which it is asked for first, and both modes grant the owner
     // what is needed to read it.
-    fn is_owner(&mut self, node: u64, uid: u32) -> Result<bool, RequestError>
+    fn is_owner(&mut self, node: u64, uid: u32) -> Tried<bool>
         ensures did { Did M.Serves (is_owner node uid) self.old self.new result }
         ensures kept { self.new.server ≡ self.old.server }
     {
@@ -82,7 +82,7 @@ impl<M: Machine> Session<M> {
     }
 
     // The object is looked at only where the directory is the user's.
-    fn owns_object(&mut self, ino: u32, uid: u32, is_above: bool) -> Result<bool, RequestError>
+    fn owns_object(&mut self, ino: u32, uid: u32, is_above: bool) -> Tried<bool>
         ensures did { Did M.Serves (owns_object ino uid is_above) self.old self.new result }
         ensures kept { self.new.server ≡ self.old.server }
     {
@@ -94,7 +94,7 @@ impl<M: Machine> Session<M> {
     }
 
     // What stat(2) shows a process of the directory that it enters.
-    fn look_above(&mut self, pid: usize, dir_ino: u32) -> Result<Status, RequestError>
+    fn look_above(&mut self, pid: usize, dir_ino: u32) -> Tried<Status>
         ensures did { Did M.Serves (look_inside pid dir_ino (codes ".")) self.old self.new result }
         ensures kept { self.new.server ≡ self.old.server }
     {
@@ -133,7 +133,7 @@ impl<M: Machine> Session<M> {
     }
 
     // Whether Linux doesn't follow the access list of the directory of a node.
-    fn is_masked(&mut self, node: u64) -> Result<bool, RequestError>
+    fn is_masked(&mut self, node: u64) -> Tried<bool>
         ensures did { Did M.Serves (is_masked node) self.old self.new result }
         ensures kept { self.new.server ≡ self.old.server }
     {
@@ -142,7 +142,7 @@ impl<M: Machine> Session<M> {
     }
 
     /// Whether Linux doesn't follow the access list of a directory.
-    pub(crate) fn list_hides(&mut self, ino: u32) -> Result<bool, RequestError>
+    pub(crate) fn list_hides(&mut self, ino: u32) -> Tried<bool>
         ensures did { Did M.Serves (list_hides ino) self.old self.new result }
         ensures kept { self.new.server ≡ self.old.server }
     {
@@ -151,7 +151,7 @@ impl<M: Machine> Session<M> {
     }
 
     // What stat(2) shows the server's own process.
-    fn seen_by_server_process(&mut self, ino: u32) -> Result<Status, RequestError>
+    fn seen_by_server_process(&mut self, ino: u32) -> Tried<Status>
         ensures did { Did M.Serves (seen_by_server_process ino) self.old self.new result }
         ensures kept { self.new.server ≡ self.old.server }
     {
@@ -160,7 +160,7 @@ impl<M: Machine> Session<M> {
     }
 
     // The list is asked for only where the mode may come from such a one.
-    fn asks_list(&mut self, ino: u32, status: Status) -> Result<bool, RequestError>
+    fn asks_list(&mut self, ino: u32, status: Status) -> Tried<bool>
         ensures did { Did M.Serves (asks_list ino status) self.old self.new result }
         ensures kept { self.new.server ≡ self.old.server }
     {

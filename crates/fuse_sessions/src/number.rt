@@ -6,7 +6,7 @@ ghost use Rattle.fuse_sessions.specs.Performing.{Did};
 use crate::object::has_dentry;
 use crate::session::Session;
 use fs_model::FileType;
-use fuse_plans::RequestError;
+use fuse_plans::{RequestError, Tried};
 use fuse_steps::Machine;
 use fuse_steps::name::only_if;
 
@@ -19,14 +19,14 @@ pub fn is_known_directory(kind: Option<FileType>) -> bool
 
 impl<M: Machine> Session<M> {
     /// The inode of a node.
-    pub fn the_number(&self, node: u64) -> Result<u32, RequestError>
+    pub fn the_number(&self, node: u64) -> Tried<u32>
         ensures { Did M.Serves (the_number node) self.now self.now result }
     {
         self.server.number_of(node).ok_or(RequestError::ESTALE)
     }
 
     /// The inode of a node that is a directory.
-    pub fn directory_number(&self, node: u64) -> Result<u32, RequestError>
+    pub fn directory_number(&self, node: u64) -> Tried<u32>
         ensures { Did M.Serves (directory_number node) self.now self.now result }
     {
         let ino = self.the_number(node)?;
@@ -35,7 +35,7 @@ impl<M: Machine> Session<M> {
     }
 
     /// The inode of a node that is a directory and has a name: one that was removed holds no names.
-    pub fn standing_directory(&self, node: u64) -> Result<u32, RequestError>
+    pub fn standing_directory(&self, node: u64) -> Tried<u32>
         ensures { Did M.Serves (standing_directory node) self.now self.now result }
     {
         let ino = self.directory_number(node)?;

@@ -13,7 +13,7 @@ use crate::session::Session;
 use fs_cred::Errno;
 use fs_layout::ROOT;
 use fs_model::{AclType, Call, Name, Path, Reply, Status};
-use fuse_plans::RequestError;
+use fuse_plans::{RequestError, Tried};
 use fuse_state::{Server, descriptor_of, owner_of};
 use fuse_steps::Machine;
 use fuse_steps::acls::told_acl;
@@ -47,13 +47,7 @@ impl<M: Machine> Session<M> {
     }
 
     /// A call on an object, if it is to be made. Only its error counts.
-    pub fn on_if(
-        &mut self,
-        condition: bool,
-        pid: usize,
-        ino: u32,
-        call: Call,
-    ) -> Result<(), RequestError>
+    pub fn on_if(&mut self, condition: bool, pid: usize, ino: u32, call: Call) -> Tried<()>
         requires { IsTrue (takes_path call) }
         ensures did { Did M.Serves (when condition (done (on pid ino (at_path call)))) self.old self.new result }
         ensures kept { self.new.server ≡ self.old.server }
@@ -73,7 +67,7 @@ impl<M: Machine> Session<M> {
         call: &mut Call,
         ino: u32,
         at: usize,
-    ) -> Option<Result<Reply, RequestError>>
+    ) -> Option<Tried<Reply>>
         requires { IsTrue (takes_path call.old) }
         ensures made { IfSome result (λ tried. (p : DentryOf) × (slice_get (dentries_of self.old.server.server ino) at ≡ Some p)
             × Did M.Serves (at_dentry pid second (at_path call.old) p) self.old self.new tried) }
@@ -98,7 +92,7 @@ impl<M: Machine> Session<M> {
         second: Option<u32>,
         nameless: RequestError,
         call: &mut Call,
-    ) -> Result<Reply, RequestError>
+    ) -> Tried<Reply>
         requires { IsTrue (takes_path call.old) }
         ensures did { let dentries = dentries_of self.old.server.server ino in
             Did M.Serves (by_dentries pid second (at_path call.old) nameless dentries) self.old self.new result }
@@ -123,7 +117,7 @@ impl<M: Machine> Session<M> {
     }
 
     // A call on an object, by where it is known; the root needs no name. The path of the call isn't looked at, and stays.
-    fn on(&mut self, pid: usize, ino: u32, call: &mut Call) -> Result<Reply, RequestError>
+    fn on(&mut self, pid: usize, ino: u32, call: &mut Call) -> Tried<Reply>
         requires { IsTrue (takes_path call.old) }
         ensures did { Did M.Serves (on pid ino (at_path call.old)) self.old self.new result }
         ensures kept { self.new.server ≡ self.old.server }
@@ -139,7 +133,7 @@ impl<M: Machine> Session<M> {
     }
 
     /// A call that is made once, on an object, by where that is known.
-    pub fn on_once(&mut self, pid: usize, ino: u32, call: Call) -> Result<Reply, RequestError>
+    pub fn on_once(&mut self, pid: usize, ino: u32, call: Call) -> Tried<Reply>
         requires { IsTrue (takes_path call) }
         ensures did { Did M.Serves (on pid ino (at_path call)) self.old self.new result }
         ensures kept { self.new.server ≡ self.old.server }
@@ -151,7 +145,7 @@ impl<M: Machine> Session<M> {
     }
 
     /// A call on an object by the server's own process, made once.
-    pub fn by_server_process(&mut self, ino: u32, call: Call) -> Result<Reply, RequestError>
+    pub fn by_server_process(&mut self, ino: u32, call: Call) -> Tried<Reply>
         requires { IsTrue (takes_path call) }
         ensures did { Did M.Serves (by_server_process ino (at_path call)) self.old self.new result }
         ensures kept { self.new.server ≡ self.old.server }
@@ -172,7 +166,7 @@ impl<M: Machine> Session<M> {
         ino: u32,
         call: &mut Call,
         error: RequestError,
-    ) -> Result<Reply, RequestError>
+    ) -> Tried<Reply>
         requires { IsTrue (takes_path call.old) }
         ensures did { let kind = kind_known self.old.server.server ino in
             Did M.Serves (or_inside pid ino (at_path call.old) kind (Err error)) self.old self.new result }
@@ -189,7 +183,7 @@ impl<M: Machine> Session<M> {
     }
 
     /// What stat(2) shows of an object. No permission is asked: the kernel holds it.
-    pub fn look(&mut self, ino: u32) -> Result<Status, RequestError>
+    pub fn look(&mut self, ino: u32) -> Tried<Status>
         ensures did { Did M.Serves (look ino) self.old self.new result }
         ensures kept { self.new.server ≡ self.old.server }
     {
@@ -198,7 +192,7 @@ impl<M: Machine> Session<M> {
     }
 
     // By the server's own process where the object has a dentry, else by a handle.
-    fn look_at(&mut self, ino: u32) -> Result<Reply, RequestError>
+    fn look_at(&mut self, ino: u32) -> Tried<Reply>
         ensures did { Did M.Serves (look_at ino (has_dentry self.old.server.server ino)) self.old self.new result }
         ensures kept { self.new.server ≡ self.old.server }
     {
@@ -209,7 +203,7 @@ impl<M: Machine> Session<M> {
         }
     }
 
-    fn by_handle(&mut self, ino: u32) -> Result<Reply, RequestError>
+    fn by_handle(&mut self, ino: u32) -> Tried<Reply>
         ensures did { Did M.Serves (by_handle ino) self.old self.new result }
         ensures kept { self.new.server ≡ self.old.server }
     {
@@ -221,7 +215,7 @@ impl<M: Machine> Session<M> {
     }
 
     /// An ACL, where it says more than the mode.
-    pub fn acl_of(&mut self, ino: u32, which: AclType) -> Result<Option<Acl>, RequestError>
+    pub fn acl_of(&mut self, ino: u32, which: AclType) -> Tried<Option<Acl>>
         ensures did { Did M.Serves (acl_of ino which) self.old self.new result }
         ensures kept { self.new.server ≡ self.old.server }
     {

@@ -6,7 +6,7 @@ ghost use Rattle.fuse_sessions.specs.Performing.{Did};
 
 use crate::session::Session;
 use fs_model::Stamps;
-use fuse_plans::RequestError;
+use fuse_plans::Tried;
 use fuse_protocol::Time;
 use fuse_state::Times;
 use fuse_steps::Machine;
@@ -33,7 +33,7 @@ impl<M: Machine> Session<M> {
     }
 
     /// The times that the machine has for an object, where the disk keeps times.
-    pub fn told_stamps(&mut self, ino: u32) -> Result<Option<Stamps>, RequestError>
+    pub fn told_stamps(&mut self, ino: u32) -> Tried<Option<Stamps>>
         ensures did { Did M.Serves (told_stamps ino) self.old self.new result }
         ensures kept { self.new.server ≡ self.old.server }
     {

@@ -5,7 +5,7 @@ ghost use Rattle.fuse_plans.specs.AclPlans.{the_acl, acl_names, acl_size, sized,
 ghost use Rattle.fuse_plans.specs.Works.{of_result};
 
 use fs_model::{AclType, Bytes};
-use fuse_plans::{ReplyBody, RequestError};
+use fuse_plans::{Replied, ReplyBody, RequestError, Tried};
 use posix_acl::{Acl, Perms};
 use std::alloc::{AllocError, Global};
 
@@ -41,7 +41,7 @@ pub fn hides(acl: &Option<Acl>) -> bool
 }
 
 /// The ACL that an attribute is.
-pub fn the_acl(name: &[u8]) -> Result<AclType, RequestError>
+pub fn the_acl(name: &[u8]) -> Tried<AclType>
     ensures { the_acl name.now ≡ of_result result }
 {
     if name == b"system.posix_acl_access".as_slice() {
@@ -64,7 +64,7 @@ pub fn told_acl(which: AclType, acl: Option<Acl>) -> Option<Acl>
 }
 
 /// For a size of 0 how many bytes there are.
-pub fn sized(size: u32, has: usize, body: ReplyBody) -> Result<ReplyBody, RequestError>
+pub fn sized(size: u32, has: usize, body: ReplyBody) -> Replied
     ensures { sized size has body ≡ of_result result }
 {
     if size == 0 {

@@ -10,12 +10,12 @@ ghost use Rattle.fuse_plans.specs.Callers.{between, inside, done_between};
 ghost use Rattle.fuse_plans.specs.Paths.{name_in};
 ghost use Rattle.fuse_steps.specs.Performing.{DidByMachine};
 
-use crate::machine::Machine;
+use crate::machine::{Machine, OpenFile};
 use crate::path::name_in;
 use fs_cred::Refusal;
 use fs_layout::ROOT;
 use fs_model::{Call, Event, Path, Reply};
-use fuse_plans::RequestError;
+use fuse_plans::{RequestError, Tried};
 
 // The refusal that a reply is.
 fn refusal_in(reply: &Reply) -> Option<Refusal>
@@ -28,7 +28,7 @@ fn refusal_in(reply: &Reply) -> Option<Refusal>
 }
 
 /// A refusal is an error, with the denial that it may be.
-pub fn unless_refused(reply: Reply) -> Result<Reply, RequestError>
+pub fn unless_refused(reply: Reply) -> Tried<Reply>
     ensures { unless_refused reply ≡ of_result result }
 {
     match refusal_in(&reply) {
@@ -53,7 +53,7 @@ pub fn ask_call<M: Machine>(machine: &mut M, pid: usize, call: &Call) -> Reply
 }
 
 /// The reply to an event, unless that is a refusal.
-pub fn obtain<M: Machine>(machine: &mut M, event: Event) -> Result<Reply, RequestError>
+pub fn obtain<M: Machine>(machine: &mut M, event: Event) -> Tried<Reply>
     requires { IsTrue (is_of_machine event) }
     ensures { DidByMachine M.Serves (obtain event) machine.old machine.new result }
 {
@@ -63,11 +63,7 @@ pub fn obtain<M: Machine>(machine: &mut M, event: Event) -> Result<Reply, Reques
 }
 
 /// The reply to a call of a process, unless that is a refusal.
-pub fn obtain_call<M: Machine>(
-    machine: &mut M,
-    pid: usize,
-    call: &Call,
-) -> Result<Reply, RequestError>
+pub fn obtain_call<M: Machine>(machine: &mut M, pid: usize, call: &Call) -> Tried<Reply>
     ensures { DidByMachine M.Serves (obtain (Calls pid call.now)) machine.old machine.new result }
 {
     let reply = ask_call(machine, pid, call);
@@ -75,11 +71,7 @@ pub fn obtain_call<M: Machine>(
 }
 
 /// The reply to a call of a process that is made once, unless that is a refusal.
-pub fn obtain_once<M: Machine>(
-    machine: &mut M,
-    pid: usize,
-    call: Call,
-) -> Result<Reply, RequestError>
+pub fn obtain_once<M: Machine>(machine: &mut M, pid: usize, call: Call) -> Tried<Reply>
     ensures { DidByMachine M.Serves (obtain (Calls pid call)) machine.old machine.new result }
 {
     let reply = obtain_call(machine, pid, &call);
@@ -110,7 +102,7 @@ pub fn between<M: Machine>(
     dir_ino: u32,
     second_ino: u32,
     call: &Call,
-) -> Result<Reply, RequestError>
+) -> Tried<Reply>
     ensures { DidByMachine M.Serves (between pid dir_ino second_ino call.now) machine.old machine.new result }
 {
     unless_refused(enter(machine, pid, dir_ino, second_ino))?.discard();
@@ -126,7 +118,7 @@ pub fn inside<M: Machine>(
     pid: usize,
     dir_ino: u32,
     call: Call,
-) -> (Result<Reply, RequestError>, Path)
+) -> (Tried<Reply>, Path)
     requires { IsSome (name_in call) }
     ensures did { DidByMachine M.Serves (inside pid dir_ino call) machine.old machine.new result.0 }
     ensures name { name_in call ≡ Some result.1 }
@@ -139,7 +131,7 @@ pub fn inside<M: Machine>(
 }
 
 /// The reply says no more than that it was done.
-pub fn done(tried: Result<Reply, RequestError>) -> Result<(), RequestError>
+pub fn done(tried: Tried<Reply>) -> Tried<()>
     ensures { MatchResult tried (λ reply. give tt ≡ of_result result) (λ error. result ≡ Err error) }
 {
     match tried {
@@ -152,19 +144,14 @@ pub fn done(tried: Result<Reply, RequestError>) -> Result<(), RequestError>
 }
 
 /// Where the work failed the process closes what it has opened. The reply to that doesn't count.
-pub fn or_closed<M: Machine, T>(
-    machine: &mut M,
-    pid: usize,
-    fd: usize,
-    tried: Result<T, RequestError>,
-) -> Result<T, RequestError>
-    ensures { DidByMachine M.Serves (or_closed pid fd tried) machine.old machine.new result }
+pub fn or_closed<M: Machine, T>(machine: &mut M, file: OpenFile, tried: Tried<T>) -> Tried<T>
+    ensures { DidByMachine M.Serves (or_closed file.pid file.fd tried) machine.old machine.new result }
 {
     match tried {
         Ok(value) => Ok(value),
         Err(error) => {
-            let call = Call::Close(fd);
-            ask_call(machine, pid, &call).discard();
+            let call = Call::Close(file.fd);
+            ask_call(machine, file.pid, &call).discard();
             call.discard();
             Err(error)
         }
@@ -178,7 +165,7 @@ pub fn done_between<M: Machine>(
     dir_ino: u32,
     second_ino: u32,
     call: &Call,
-) -> Result<(), RequestError>
+) -> Tried<()>
     ensures { DidByMachine M.Serves (done_between pid dir_ino second_ino call.now) machine.old machine.new result }
 {
     done(between(machine, pid, dir_ino, second_ino, call))

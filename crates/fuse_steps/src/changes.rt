@@ -6,7 +6,7 @@ ghost use Rattle.fs_cred.specs.Ownership.{counts_as_owner};
 
 use fs_cred::{Cred, may_own};
 use fs_model::Status;
-use fuse_plans::RequestError;
+use fuse_plans::{RequestError, Tried};
 use fuse_protocol::{AttrChanges, NewTime};
 
 // Whether a number is to be set that isn't there already.
@@ -20,10 +20,7 @@ fn differs(wanted: Option<u32>, present: u32) -> bool
 }
 
 /// Neither the owner nor the group are to be others.
-pub fn owners_stay(
-    changes: &AttrChanges,
-    status: Status,
-) -> Result<(Option<u32>, Option<u32>), RequestError>
+pub fn owners_stay(changes: &AttrChanges, status: Status) -> Tried<(Option<u32>, Option<u32>)>
     ensures { owners_stay changes.now status ≡ of_result result }
 {
     if differs(changes.uid, status.owner) || differs(changes.gid, status.group) {

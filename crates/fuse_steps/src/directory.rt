@@ -6,24 +6,24 @@ ghost use Rattle.fuse_plans.specs.NamePlans.{set_umask, close, opens, done_close
 ghost use Rattle.fuse_steps.specs.Performing.{DidByMachine};
 
 use crate::asker::{between, done, done_between, inside, obtain_once, or_closed};
-use crate::machine::Machine;
+use crate::machine::{Machine, OpenFile};
 use crate::name::none_there;
 use crate::replies::{fd_of_reply, names_of_reply};
 use fs_model::{Call, Listing, Path, Reply};
-use fuse_plans::RequestError;
+use fuse_plans::{RequestError, Tried};
 
 /// New objects of the process are made with this mask from now on.
-pub fn set_umask<M: Machine>(machine: &mut M, pid: usize, umask: u32) -> Result<Reply, RequestError>
+pub fn set_umask<M: Machine>(machine: &mut M, pid: usize, umask: u32) -> Tried<Reply>
     ensures { DidByMachine M.Serves (set_umask pid umask) machine.old machine.new result }
 {
     obtain_once(machine, pid, Call::Umask((umask & 0o777) as u16))
 }
 
-// Closes a descriptor.
-fn close<M: Machine>(machine: &mut M, pid: usize, fd: usize) -> Result<(), RequestError>
-    ensures { DidByMachine M.Serves (close pid fd) machine.old machine.new result }
+// Closes what is open.
+fn close<M: Machine>(machine: &mut M, file: OpenFile) -> Tried<()>
+    ensures { DidByMachine M.Serves (close file.pid file.fd) machine.old machine.new result }
 {
-    done(obtain_once(machine, pid, Call::Close(fd)))
+    done(obtain_once(machine, file.pid, Call::Close(file.fd)))
 }
 
 // Whether a call opens something.
@@ -34,12 +34,7 @@ fn opens(call: &Call) -> bool
 }
 
 /// A call in a directory, after which nothing is open: what it opens is closed.
-pub fn done_closed<M: Machine>(
-    machine: &mut M,
-    pid: usize,
-    dir_ino: u32,
-    call: &Call,
-) -> Result<(), RequestError>
+pub fn done_closed<M: Machine>(machine: &mut M, pid: usize, dir_ino: u32, call: &Call) -> Tried<()>
     ensures { DidByMachine M.Serves (done_closed pid dir_ino call.now) machine.old machine.new result }
 {
     if !opens(call) {
@@ -51,7 +46,7 @@ pub fn done_closed<M: Machine>(
     let Some(fd) = fd else {
         return Err(RequestError::EIO);
     };
-    close(machine, pid, fd)
+    close(machine, OpenFile { pid, fd })
 }
 
 // Removes a name: of a directory, or of something else.
@@ -72,7 +67,7 @@ pub fn remove_inside<M: Machine>(
     dir_ino: u32,
     of_directory: bool,
     name: Path,
-) -> (Result<(), RequestError>, Path)
+) -> (Tried<()>, Path)
     ensures did { let call = removal of_directory name in
         DidByMachine M.Serves (done_between pid dir_ino dir_ino call) machine.old machine.new result.0 }
     ensures name { result.1 ≡ name }
@@ -89,7 +84,7 @@ pub fn nothing_to_replace<M: Machine>(
     pid: usize,
     dir_ino: u32,
     name: Path,
-) -> (Result<(), RequestError>, Path)
+) -> (Tried<()>, Path)
     ensures did { DidByMachine M.Serves (nothing_to_replace flags pid dir_ino name) machine.old machine.new result.0 }
     ensures name { result.1 ≡ name }
 {
@@ -101,30 +96,26 @@ pub fn nothing_to_replace<M: Machine>(
 }
 
 // The names in what is open.
-fn tell_names<M: Machine>(machine: &mut M, pid: usize, fd: usize) -> Result<Listing, RequestError>
-    ensures { DidByMachine M.Serves (tell_names pid fd) machine.old machine.new result }
+fn tell_names<M: Machine>(machine: &mut M, file: OpenFile) -> Tried<Listing>
+    ensures { DidByMachine M.Serves (tell_names file.pid file.fd) machine.old machine.new result }
 {
-    let reply = obtain_once(machine, pid, Call::Readdir(fd))?;
+    let reply = obtain_once(machine, file.pid, Call::Readdir(file.fd))?;
     names_of_reply(reply).ok_or(RequestError::EIO)
 }
 
 // The names in what was opened; where it tells none that is closed.
-fn list_open<M: Machine>(machine: &mut M, pid: usize, fd: usize) -> Result<Listing, RequestError>
-    ensures { DidByMachine M.Serves (list_open pid fd) machine.old machine.new result }
+fn list_open<M: Machine>(machine: &mut M, file: OpenFile) -> Tried<Listing>
+    ensures { DidByMachine M.Serves (list_open file.pid file.fd) machine.old machine.new result }
 {
-    let seen = tell_names(machine, pid, fd);
-    or_closed(machine, pid, fd, seen)
+    let seen = tell_names(machine, file);
+    or_closed(machine, file, seen)
 }
 
 /// The names in what was opened, and then it is closed.
-pub fn list_and_close<M: Machine>(
-    machine: &mut M,
-    pid: usize,
-    fd: usize,
-) -> Result<Listing, RequestError>
-    ensures { DidByMachine M.Serves (list_and_close pid fd) machine.old machine.new result }
+pub fn list_and_close<M: Machine>(machine: &mut M, file: OpenFile) -> Tried<Listing>
+    ensures { DidByMachine M.Serves (list_and_close file.pid file.fd) machine.old machine.new result }
 {
-    let names = list_open(machine, pid, fd)?;
-    obtain_once(machine, pid, Call::Close(fd))?.discard();
+    let names = list_open(machine, file)?;
+    obtain_once(machine, file.pid, Call::Close(file.fd))?.discard();
     Ok(names)
 }

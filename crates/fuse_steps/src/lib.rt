@@ -22,4 +22,4 @@ pub mod runs;
 pub mod seen;
 pub mod times;
 
-pub use machine::Machine;
+pub use machine::{Machine, OpenFile};

@@ -7,7 +7,7 @@ ghost use Rattle.fuse_plans.specs.ListingPlans.{entry_kind_of_type, told_found, 
 
 use crate::cursor::Cursor;
 use fs_model::{Bytes, FileType, Listing, Named};
-use fuse_plans::{ReplyBody, RequestError, looked_up_entry};
+use fuse_plans::{Replied, ReplyBody, looked_up_entry};
 use fuse_protocol::{
     DirectoryEntry, DirectoryRecord, EntryKind, Extent, FoundEntry, Piece, push_entry, push_record,
     record_size,
@@ -97,7 +97,7 @@ fn entry_kind_of_type(kind: FileType) -> EntryKind
 }
 
 // What a look-up tells of a name.
-fn told_found(looked_up: &Result<ReplyBody, RequestError>) -> Option<FoundEntry>
+fn told_found(looked_up: &Replied) -> Option<FoundEntry>
     ensures { result ≡ told_found looked_up.now }
 {
     match looked_up {
@@ -113,11 +113,7 @@ fn told_found(looked_up: &Result<ReplyBody, RequestError>) -> Option<FoundEntry>
 }
 
 // The entry of a name that was looked up: with the inode and the kind of what was found.
-fn record_entry<'a>(
-    offset: u64,
-    named: &'a Named,
-    looked_up: &Result<ReplyBody, RequestError>,
-) -> DirectoryEntry<'a>
+fn record_entry<'a>(offset: u64, named: &'a Named, looked_up: &Replied) -> DirectoryEntry<'a>
     ensures { let n = named.now in result ≡ record_entry (offset, (n.name, n.ino)) looked_up.now }
 {
     match looked_up {
@@ -132,12 +128,7 @@ fn record_entry<'a>(
 }
 
 /// Adds the record of a name that was looked up, for which there is room.
-pub fn push_looked_up(
-    to: &mut Vec<u8>,
-    offset: u64,
-    named: &Named,
-    looked_up: &Result<ReplyBody, RequestError>,
-)
+pub fn push_looked_up(to: &mut Vec<u8>, offset: u64, named: &Named, looked_up: &Replied)
     requires name { length named.now.name < 2 ^ 32 }
     requires room { vec_len to.old + record_size (length named.now.name) ≤ vec_capacity to.old }
     ensures bytes { let n = named.now in

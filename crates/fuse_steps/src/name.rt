@@ -7,7 +7,7 @@ ghost use Rattle.fuse_plans.specs.Works.{give, fail, of_result};
 use crate::times::times_in;
 use fs_cred::Errno;
 use fs_model::{Name, Path, Reply, Stamps, Status};
-use fuse_plans::{Attributes, OtherErrno, ReplyBody, RequestError};
+use fuse_plans::{Attributes, OtherErrno, Replied, ReplyBody, RequestError, Tried};
 use fuse_state::{Dentry, Server, Settings};
 
 /// The name of a path in a directory.
@@ -21,7 +21,7 @@ pub fn dentry(dir_ino: u32, path: Path) -> Dentry
 }
 
 /// Nobody asks for `.` or `..` by name: the kernel resolves these itself. EINVAL for them.
-pub fn plain_name(name: &Path) -> Result<(), RequestError>
+pub fn plain_name(name: &Path) -> Tried<()>
     ensures { plain_name name.now ≡ of_result result }
 {
     let bytes = name.bytes();
@@ -33,7 +33,7 @@ pub fn plain_name(name: &Path) -> Result<(), RequestError>
 }
 
 /// What was shown is this object: a name may lead to another by now. ESTALE then.
-pub fn only_inode(ino: u32, status: Status) -> Result<(), RequestError>
+pub fn only_inode(ino: u32, status: Status) -> Tried<()>
     ensures { only_inode ino status ≡ of_result result }
 {
     if status.ino == ino {
@@ -44,7 +44,7 @@ pub fn only_inode(ino: u32, status: Status) -> Result<(), RequestError>
 }
 
 /// The number of an object, where that is so; else the error.
-pub fn only_if(is_so: bool, ino: u32, error: RequestError) -> Result<u32, RequestError>
+pub fn only_if(is_so: bool, ino: u32, error: RequestError) -> Tried<u32>
     ensures { (if is_so then give ino else fail error) ≡ of_result result }
 {
     if is_so { Ok(ino) } else { Err(error) }
@@ -109,11 +109,7 @@ fn keeps_absent(needs_nobody: bool, settings: Settings, error: RequestError) -> 
 }
 
 /// Where a name was looked up in vain: the error, or that nothing has it.
-pub fn or_keep_absent(
-    settings: Settings,
-    needs_nobody: bool,
-    error: RequestError,
-) -> Result<ReplyBody, RequestError>
+pub fn or_keep_absent(settings: Settings, needs_nobody: bool, error: RequestError) -> Replied
     ensures { or_keep_absent needs_nobody settings error ≡ of_result result }
 {
     if keeps_absent(needs_nobody, settings, error) {
@@ -131,7 +127,7 @@ pub fn keeps_names(settings: Settings) -> bool
 }
 
 /// For how many seconds the kernel may keep a new name: not at all where it wasn't seen that it follows the directory's list.
-pub fn unless_hidden(name_valid: u64, hides: Result<bool, RequestError>) -> u64
+pub fn unless_hidden(name_valid: u64, hides: Tried<bool>) -> u64
     ensures { result ≡ unless_hidden name_valid hides }
 {
     match hides {
@@ -141,7 +137,7 @@ pub fn unless_hidden(name_valid: u64, hides: Result<bool, RequestError>) -> u64
 }
 
 /// A directory that was removed has no names: ENOENT in place of ESTALE.
-pub fn or_absent(known: Result<u32, RequestError>) -> Result<u32, RequestError>
+pub fn or_absent(known: Tried<u32>) -> Tried<u32>
     ensures { or_absent known ≡ of_result result }
 {
     match known {
@@ -156,7 +152,7 @@ const TYPE_BITS: u32 = 0o170000;
 const FILE_TYPE: u32 = 0o100000;
 
 /// Other types than that of a file aren't made, as mknod(2) has it: EPERM. Without a type it is that of a file.
-pub fn only_file(mode: u32) -> Result<(), RequestError>
+pub fn only_file(mode: u32) -> Tried<()>
     ensures { only_file mode ≡ of_result result }
 {
     let file_type = mode & TYPE_BITS;
@@ -168,7 +164,7 @@ pub fn only_file(mode: u32) -> Result<(), RequestError>
 }
 
 /// The one flag is that nothing may be replaced, RENAME_NOREPLACE of renameat2(2): EINVAL for any other.
-pub fn only_no_replace(flags: u32) -> Result<(), RequestError>
+pub fn only_no_replace(flags: u32) -> Tried<()>
     ensures { only_no_replace flags ≡ of_result result }
 {
     if flags > 1 {
@@ -179,7 +175,7 @@ pub fn only_no_replace(flags: u32) -> Result<(), RequestError>
 }
 
 /// The name leads nowhere: EEXIST where it leads to something. Other errors of the look at it stay.
-pub fn none_there(there: Result<Reply, RequestError>) -> Result<(), RequestError>
+pub fn none_there(there: Tried<Reply>) -> Tried<()>
     ensures { none_there there ≡ of_result result }
 {
     match there {

@@ -14,7 +14,7 @@ use crate::machine::Machine;
 use crate::path::swap_path;
 use fs_cred::Cred;
 use fs_model::{Call, Event, Name, Path, Reply};
-use fuse_plans::RequestError;
+use fuse_plans::Tried;
 use fuse_state::{Borrower, Dentry};
 use std::alloc::Global;
 use std::marker::Model;
@@ -53,7 +53,7 @@ impl<M: Machine> Machine for WithPaths<M> {
     }
 }
 
-impl<M: Machine> Borrower<Result<Reply, RequestError>> for WithPaths<M> {
+impl<M: Machine> Borrower<Tried<Reply>> for WithPaths<M> {
     ghost Takes = { λ call. IsTrue (takes_path call) };
 
     ghost Calls = { λ old pid second call dentry reply new. DidByMachine M.Serves (at_dentry pid second (at_path call) dentry) old new reply };
@@ -64,7 +64,7 @@ impl<M: Machine> Borrower<Result<Reply, RequestError>> for WithPaths<M> {
         second: Option<u32>,
         call: &mut Call,
         dentry: Dentry,
-    ) -> (Result<Reply, RequestError>, Dentry) {
+    ) -> (Tried<Reply>, Dentry) {
         let Dentry { dir_ino, name } = dentry;
         let mut path = Path::new(name.into_bytes());
         swap_path(call, &mut path);
@@ -115,7 +115,7 @@ impl<M: Machine> WithPaths<M> {
     }
 
     /// The reply to a call on the root: its path is `/` meanwhile.
-    pub fn obtain_at_root(&mut self, pid: usize, call: &mut Call) -> Result<Reply, RequestError>
+    pub fn obtain_at_root(&mut self, pid: usize, call: &mut Call) -> Tried<Reply>
         requires { IsTrue (takes_path call.old) }
         ensures did { DidByMachine M.Serves (obtain (Calls pid (at_path call.old (codes "/")))) self.old self.new result }
         ensures call { call.new ≡ call.old }
@@ -127,12 +127,7 @@ impl<M: Machine> WithPaths<M> {
     }
 
     /// The reply to a call on a directory by a process that stands there: its path is `.` meanwhile.
-    pub fn obtain_inside(
-        &mut self,
-        pid: usize,
-        dir_ino: u32,
-        call: &mut Call,
-    ) -> Result<Reply, RequestError>
+    pub fn obtain_inside(&mut self, pid: usize, dir_ino: u32, call: &mut Call) -> Tried<Reply>
         requires { IsTrue (takes_path call.old) }
         ensures did { DidByMachine M.Serves (inside pid dir_ino (at_path call.old (codes "."))) self.old self.new result }
         ensures call { call.new ≡ call.old }

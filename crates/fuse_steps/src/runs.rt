@@ -7,11 +7,11 @@ ghost use Rattle.fuse_steps.specs.Performing.{DidByMachine};
 ghost use Rattle.fuse_plans.specs.Works.{of_result};
 
 use crate::asker::{obtain_call, obtain_once};
-use crate::machine::Machine;
+use crate::machine::{Machine, OpenFile};
 use crate::replies::{count_of_reply, count_within, data_of_reply, within};
 use fs_cred::Errno;
 use fs_model::{Bytes, Call, Reply, Whence};
-use fuse_plans::RequestError;
+use fuse_plans::{RequestError, Tried};
 use std::alloc::{AllocError, Global};
 
 // So many bytes are read at once.
@@ -27,67 +27,36 @@ const MOVE: usize = 4096;
 const OFFSETS: u64 = 9_223_372_036_854_775_808;
 
 /// The next bytes that are moved are those behind this offset.
-pub fn seek<M: Machine>(
-    machine: &mut M,
-    pid: usize,
-    fd: usize,
-    offset: u64,
-) -> Result<Reply, RequestError>
-    ensures { DidByMachine M.Serves (seek pid fd offset) machine.old machine.new result }
+pub fn seek<M: Machine>(machine: &mut M, file: OpenFile, offset: u64) -> Tried<Reply>
+    ensures { DidByMachine M.Serves (seek file.pid file.fd offset) machine.old machine.new result }
 {
     if offset >= OFFSETS {
         return Err(RequestError::EINVAL);
     }
-    obtain_once(machine, pid, Call::Lseek(fd, Whence::Set, offset as i64))
+    obtain_once(
+        machine,
+        file.pid,
+        Call::Lseek(file.fd, Whence::Set, offset as i64),
+    )
 }
 
 // A piece of at most so many bytes.
-fn read_piece<M: Machine>(
-    machine: &mut M,
-    pid: usize,
-    fd: usize,
-    most: usize,
-) -> Result<Bytes, RequestError>
-    ensures did { DidByMachine M.Serves (read_piece pid fd most) machine.old machine.new result }
+fn read_piece<M: Machine>(machine: &mut M, file: OpenFile, most: usize) -> Tried<Bytes>
+    ensures did { DidByMachine M.Serves (read_piece file.pid file.fd most) machine.old machine.new result }
     ensures most { IfOk result (λ piece. length piece ≤ most) }
 {
-    let reply = obtain_once(machine, pid, Call::Read { fd, len: most })?;
+    let reply = obtain_once(
+        machine,
+        file.pid,
+        Call::Read {
+            fd: file.fd,
+            len: most,
+        },
+    )?;
     match within(most, data_of_reply(reply)) {
         Some(piece) => Ok(piece),
         None => Err(RequestError::EIO),
     }
-}
-
-// Pieces until one is short, with room for them.
-fn read_pieces<M: Machine>(
-    machine: &mut M,
-    pid: usize,
-    fd: usize,
-    size: usize,
-    room: Vec<u8>,
-) -> Result<Bytes, RequestError>
-    requires empty { room.items ≡ [] }
-    requires capacity { size ≤ vec_capacity room }
-    ensures { DidByMachine M.Serves (read_pieces (runs_of size) pid fd size []) machine.old machine.new result }
-{
-    let mut bytes = room;
-    let mut left = size;
-    for _round in 0..size / RUN + 1 {
-        if left == 0 {
-            return Ok(Bytes::new(bytes));
-        }
-        let most = left.min(RUN);
-        let piece = read_piece(machine, pid, fd, most)?;
-        let piece = piece.bytes();
-        let Ok(()) = bytes.extend_from_slice(piece) else {
-            return Err(RequestError::ENOMEM);
-        };
-        if piece.len() < most {
-            return Ok(Bytes::new(bytes));
-        }
-        left -= most;
-    }
-    Ok(Bytes::new(bytes))
 }
 
 /// Room for the pieces of what is read; one that is all needs none.
@@ -102,25 +71,41 @@ pub fn room_to_read(alloc: Global, size: usize) -> Result<Vec<u8>, AllocError>
     Ok(room)
 }
 
-/// What is read of so many bytes: one piece that is all is given as it came.
+/// What is read of so many bytes, in pieces until one is short: one piece that is all is given as it came.
 pub fn read_bytes<M: Machine>(
     machine: &mut M,
-    pid: usize,
-    fd: usize,
+    file: OpenFile,
     size: usize,
     room: Vec<u8>,
-) -> Result<Bytes, RequestError>
+) -> Tried<Bytes>
     requires empty { room.items ≡ [] }
     requires capacity { run_limit < size → size ≤ vec_capacity room }
-    ensures { DidByMachine M.Serves (read_pieces (runs_of size) pid fd size []) machine.old machine.new result }
+    ensures { DidByMachine M.Serves (read_pieces (runs_of size) file.pid file.fd size []) machine.old machine.new result }
 {
     if size == 0 {
         return Ok(Bytes::new(room));
     }
-    if size > RUN {
-        return read_pieces(machine, pid, fd, size, room);
+    if size <= RUN {
+        return read_piece(machine, file, size);
     }
-    read_piece(machine, pid, fd, size)
+    let mut bytes = room;
+    let mut left = size;
+    for _round in 0..size / RUN + 1 {
+        if left == 0 {
+            return Ok(Bytes::new(bytes));
+        }
+        let most = left.min(RUN);
+        let piece = read_piece(machine, file, most)?;
+        let piece = piece.bytes();
+        let Ok(()) = bytes.extend_from_slice(piece) else {
+            return Err(RequestError::ENOMEM);
+        };
+        if piece.len() < most {
+            return Ok(Bytes::new(bytes));
+        }
+        left -= most;
+    }
+    Ok(Bytes::new(bytes))
 }
 
 // So many bytes a call writes.
@@ -134,7 +119,7 @@ fn length_written(call: &Call) -> usize
 }
 
 // How many bytes were written of a piece.
-fn write_piece<M: Machine>(machine: &mut M, pid: usize, call: &Call) -> Result<usize, RequestError>
+fn write_piece<M: Machine>(machine: &mut M, pid: usize, call: &Call) -> Tried<usize>
     ensures did { DidByMachine M.Serves (write_piece pid call.now) machine.old machine.new result }
     ensures most { IfOk result (λ count. count ≤ length_written call.now) }
 {
@@ -148,7 +133,7 @@ fn write_piece<M: Machine>(machine: &mut M, pid: usize, call: &Call) -> Result<u
 }
 
 // What was written before a refusal counts.
-fn or_done(done: usize, wrote: Result<usize, RequestError>) -> Result<usize, RequestError>
+fn or_done(done: usize, wrote: Tried<usize>) -> Tried<usize>
     ensures done { or_done done wrote ≡ of_result result }
     ensures most { (most : ℕ) → IfOk wrote (λ count. count ≤ most) → IfOk result (λ count. count ≤ most) }
 {
@@ -172,18 +157,13 @@ fn bytes_written(call: Call) -> Option<Bytes>
 }
 
 // How many bytes were written of a piece by a call for it. The piece comes back.
-fn write_bytes<M: Machine>(
-    machine: &mut M,
-    pid: usize,
-    fd: usize,
-    piece: Bytes,
-) -> (Result<usize, RequestError>, Bytes)
-    ensures did { DidByMachine M.Serves (write_piece pid (Write fd piece)) machine.old machine.new result.0 }
+fn write_bytes<M: Machine>(machine: &mut M, file: OpenFile, piece: Bytes) -> (Tried<usize>, Bytes)
+    ensures did { DidByMachine M.Serves (write_piece file.pid (Write file.fd piece)) machine.old machine.new result.0 }
     ensures most { IfOk result.0 (λ count. count ≤ length piece) }
     ensures piece { result.1 ≡ piece }
 {
-    let call = Call::Write(fd, piece);
-    let wrote = write_piece(machine, pid, &call);
+    let call = Call::Write(file.fd, piece);
+    let wrote = write_piece(machine, file.pid, &call);
     let Some(piece) = bytes_written(call) else {
         unreachable!()
     };
@@ -229,15 +209,14 @@ pub fn room_for_pieces(alloc: Global, bytes: &[u8]) -> Result<WriteRoom, AllocEr
 // Pieces of so many bytes at most, until one is short or refused, in room for each of them: how many bytes were written.
 fn write_pieces<M: Machine>(
     machine: &mut M,
-    pid: usize,
-    fd: usize,
+    file: OpenFile,
     most: usize,
     bytes: &[u8],
     room: Bytes,
-) -> Result<usize, RequestError>
+) -> Tried<usize>
     requires some { 0 < most }
     requires room { min (length bytes.now) most ≤ length room }
-    ensures { DidByMachine M.Serves (write_pieces pid 0 (writes_of most fd bytes.now)) machine.old machine.new result }
+    ensures { DidByMachine M.Serves (write_pieces file.pid 0 (writes_of most file.fd bytes.now)) machine.old machine.new result }
 {
     let (mut room, mut rest, mut done) = (room, bytes, 0);
     for _round in 0..bytes.len() / most + 1 {
@@ -246,7 +225,7 @@ fn write_pieces<M: Machine>(
             return Ok(done);
         }
         let (piece, behind) = rest.split_at(size);
-        let (wrote, written) = write_bytes(machine, pid, fd, piece_in(room, piece));
+        let (wrote, written) = write_bytes(machine, file, piece_in(room, piece));
         let count = or_done(done, wrote)?;
         done += count;
         if count < size {
@@ -261,14 +240,13 @@ fn write_pieces<M: Machine>(
 // Where there is no space for a run, and so nothing was written, the same bytes are written by moves.
 fn or_by_moves<M: Machine>(
     machine: &mut M,
-    pid: usize,
-    fd: usize,
+    file: OpenFile,
     bytes: &[u8],
     room: Bytes,
-    wrote: Result<usize, RequestError>,
-) -> Result<usize, RequestError>
+    wrote: Tried<usize>,
+) -> Tried<usize>
     requires { min (length bytes.now) move_limit ≤ length room }
-    ensures { DidByMachine M.Serves (or_by_moves pid (writes_of move_limit fd bytes.now) wrote) machine.old machine.new result }
+    ensures { DidByMachine M.Serves (or_by_moves file.pid (writes_of move_limit file.fd bytes.now) wrote) machine.old machine.new result }
 {
     match wrote {
         Ok(count) => Ok(count),
@@ -276,7 +254,7 @@ fn or_by_moves<M: Machine>(
             if !error.is_for(Errno::ENOSPC) {
                 return Err(error);
             }
-            write_pieces(machine, pid, fd, MOVE, bytes, room)
+            write_pieces(machine, file, MOVE, bytes, room)
         }
     }
 }
@@ -284,17 +262,16 @@ fn or_by_moves<M: Machine>(
 /// By runs, or by moves: how many bytes were written.
 pub fn write_runs<M: Machine>(
     machine: &mut M,
-    pid: usize,
-    fd: usize,
+    file: OpenFile,
     bytes: &[u8],
     room: WriteRoom,
-) -> Result<usize, RequestError>
+) -> Tried<usize>
     requires run { min (length bytes.now) write_limit ≤ length room.run }
     requires piece { min (length bytes.now) move_limit ≤ length room.piece }
-    ensures { let runs = writes_of write_limit fd bytes.now in let moves = writes_of move_limit fd bytes.now in
-        DidByMachine M.Serves (write_runs pid runs moves) machine.old machine.new result }
+    ensures { let runs = writes_of write_limit file.fd bytes.now in let moves = writes_of move_limit file.fd bytes.now in
+        DidByMachine M.Serves (write_runs file.pid runs moves) machine.old machine.new result }
 {
     let WriteRoom { run, piece } = room;
-    let wrote = write_pieces(machine, pid, fd, WRITE_RUN, bytes, run);
-    or_by_moves(machine, pid, fd, bytes, piece, wrote)
+    let wrote = write_pieces(machine, file, WRITE_RUN, bytes, run);
+    or_by_moves(machine, file, bytes, piece, wrote)
 }

@@ -10,7 +10,7 @@ use crate::asker::ask;
 use crate::machine::Machine;
 use crate::replies::stamps_of_reply;
 use fs_model::{Event, Reply, Stamps};
-use fuse_plans::RequestError;
+use fuse_plans::{RequestError, Tried};
 use fuse_protocol::{NewTime, Time};
 use fuse_state::{Server, Times, stamp_of, times_shown};
 
@@ -48,7 +48,7 @@ pub fn ask_stamp<M: Machine>(
 }
 
 /// The times in a reply. It is asked of no process: a refusal is a fault of the machine.
-pub fn replied_stamps(reply: Reply) -> Result<Stamps, RequestError>
+pub fn replied_stamps(reply: Reply) -> Tried<Stamps>
     ensures { replied_stamps reply ≡ of_result result }
 {
     let stamps = stamps_of_reply(&reply);
@@ -64,7 +64,7 @@ pub fn told_stamps<M: Machine>(
     machine: &mut M,
     keeps_times: bool,
     ino: u32,
-) -> Result<Option<Stamps>, RequestError>
+) -> Tried<Option<Stamps>>
     ensures { DidByMachine M.Serves (told_stamps_if keeps_times ino) machine.old machine.new result }
 {
     if !keeps_times {

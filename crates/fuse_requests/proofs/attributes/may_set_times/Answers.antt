@@ -6,15 +6,15 @@ use Rattle.fuse_requests.proofs.attributes.may_set_times.Goals as goal
 
 pub returns-then-is_owner-clause-did : goal.returns-then-is_owner-clause-did
 returns-then-is_owner-clause-did g c =
-    same-work (ap (λ (b : Bool). may_set_times c.args.pid c.args.ino c.args.link b c.args.changes.now) c.if-is_owner.true) (gives _ _)
+    same-work (ap (λ (b : Bool). may_set_times c.args.act.pid c.args.act.ino c.args.link b c.args.changes.now) c.if-is_owner.true) (gives _ _)
 
 pub returns-then-needs_owner-clause-did : goal.returns-then-needs_owner-clause-did
 returns-then-needs_owner-clause-did g c =
-    same-work (ap (λ (b : Bool). may_set_times c.args.pid c.args.ino c.args.link b c.args.changes.now) c.if-is_owner.false)
+    same-work (ap (λ (b : Bool). may_set_times c.args.act.pid c.args.act.ino c.args.link b c.args.changes.now) c.if-is_owner.false)
     (where-true _ _ (sym c.needs_owner.ensures ∙ c.if-needs_owner.true) (has-failed _ _))
 
 pub returns-clause-did : goal.returns-clause-did
 returns-clause-did g c =
-    same-work (ap (λ (b : Bool). may_set_times c.args.pid c.args.ino c.args.link b c.args.changes.now) c.if-is_owner.false)
+    same-work (ap (λ (b : Bool). may_set_times c.args.act.pid c.args.act.ino c.args.link b c.args.changes.now) c.if-is_owner.false)
     (where-false _ _ (sym c.needs_owner.ensures ∙ c.if-needs_owner.false)
     (then-matches _ (rw c.from_digit.ensures at c.on_once.ensures.did) c.done.ensures))

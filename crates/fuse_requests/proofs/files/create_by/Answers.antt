@@ -14,11 +14,11 @@ pub returns-in_err-seen : goal.returns-in_err-seen
 returns-in_err-seen g c =
     then-was _ (on-machine c.open_or_make-opened.ensures.did) c.in_ok-reply.was
     (needs-some _ _ (sym (rw c.fd_of_reply-fd.ensures at c.in-Some.ensures))
-    (then-fails _ c.from_residual-in_err-seen.ensures (rw c.descriptor_of.ensures at c.in_err-seen.ensures.did)))
+    (then-fails _ c.from_residual-in_err-seen.ensures (rw c.descriptor_of-fd.ensures at c.in_err-seen.ensures.did)))
 
 pub returns : goal.returns
 returns g c =
     then-was _ (on-machine c.open_or_make-opened.ensures.did) c.in_ok-reply.was
     (needs-some _ _ (sym (rw c.fd_of_reply-fd.ensures at c.in-Some.ensures))
-    (then-ok _ (rw c.descriptor_of.ensures at c.in_ok-seen.ensures.did)
-    (rw (c.dentry-dentry.ensures, c.is_trunc-is_cut.ensures, c.open_or_make-opened.ensures.name) at c.tell_created.ensures)))
+    (then-ok _ (rw c.descriptor_of-fd.ensures at c.in_ok-seen.ensures.did)
+    (rw (c.dentry-dentry.ensures, c.is_trunc.ensures, c.open_or_make-opened.ensures.name) at c.tell_created.ensures)))

@@ -7,9 +7,9 @@ returns-in_err-_inode g c = then-fails _ c.from_residual.ensures c.in_err-_inode
 pub returns-in_err-bytes : goal.returns-in_err-bytes
 returns-in_err-bytes g c =
     then-ok _ c.in_ok-_inode.ensures.did
-    (then-fails _ c.from_residual-in_err-bytes.ensures (on-machine (rw (c.owner_of-pid.ensures, c.descriptor_of-fd.ensures) at c.in_err-bytes.ensures)))
+    (then-fails _ c.from_residual-in_err-bytes.ensures (on-machine (rw (c.of_handle-file.ensures.pid, c.of_handle-file.ensures.fd) at c.in_err-bytes.ensures)))
 
 pub returns : goal.returns
 returns g c =
     then-ok _ c.in_ok-_inode.ensures.did
-    (then-ok _ (on-machine (rw (c.owner_of-pid.ensures, c.descriptor_of-fd.ensures) at c.in_ok-bytes.ensures)) (gives _ _))
+    (then-ok _ (on-machine (rw (c.of_handle-file.ensures.pid, c.of_handle-file.ensures.fd) at c.in_ok-bytes.ensures)) (gives _ _))

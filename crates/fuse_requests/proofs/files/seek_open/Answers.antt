@@ -7,9 +7,9 @@ returns-in_err-ino-clause-did g c = then-fails _ c.from_residual.ensures c.in_er
 pub returns-in_err-seek-clause-did : goal.returns-in_err-seek-clause-did
 returns-in_err-seek-clause-did g c =
     then-ok _ c.in_ok-ino.ensures
-    (then-fails _ c.from_residual-in_err-seek.ensures (on-machine (rw (c.owner_of.ensures, c.descriptor_of.ensures) at c.in_err-seek.ensures)))
+    (then-fails _ c.from_residual-in_err-seek.ensures (on-machine (rw (c.of_handle.ensures.pid, c.of_handle.ensures.fd) at c.in_err-seek.ensures)))
 
 pub returns-clause-did : goal.returns-clause-did
 returns-clause-did g c =
     then-ok _ c.in_ok-ino.ensures
-    (then-ok _ (on-machine (rw (c.owner_of.ensures, c.descriptor_of.ensures) at c.in_ok-seek.ensures)) (gives _ _))
+    (then-ok _ (on-machine (rw (c.of_handle.ensures.pid, c.of_handle.ensures.fd) at c.in_ok-seek.ensures)) (gives _ _))

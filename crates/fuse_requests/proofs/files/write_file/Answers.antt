@@ -7,9 +7,9 @@ returns-in_err-ino g c = then-fails _ c.from_residual.ensures c.in_err-ino.ensur
 
 pub returns-in_err-count : goal.returns-in_err-count
 returns-in_err-count g c =
-    then-ok _ c.in_ok-ino.ensures.did (then-fails _ c.from_residual-in_err-count.ensures (on-machine (rw (c.owner_of-pid.ensures, c.descriptor_of-fd.ensures) at c.in_err-count.ensures)))
+    then-ok _ c.in_ok-ino.ensures.did (then-fails _ c.from_residual-in_err-count.ensures (on-machine (rw (c.of_handle-file.ensures.pid, c.of_handle-file.ensures.fd) at c.in_err-count.ensures)))
 
 pub returns : goal.returns
 returns g c =
     then-ok _ c.in_ok-ino.ensures.did
-    (then-ok _ (on-machine (rw (c.owner_of-pid.ensures, c.descriptor_of-fd.ensures) at c.in_ok-count.ensures)) (keeps _ _ refl c.touch.ensures.kept (gives _ _)))
+    (then-ok _ (on-machine (rw (c.of_handle-file.ensures.pid, c.of_handle-file.ensures.fd) at c.in_ok-count.ensures)) (keeps _ _ refl c.touch.ensures.kept (gives _ _)))

@@ -15,22 +15,22 @@ use Rattle.fuse_requests.proofs.lookups.look_up_names.Goals as goal
 
 pub loop-next-init : goal.loop-next-init
 loop-next-init g c =
-    let empty : vec_len c.args.room ≡ 0 = omega (arith, c.args.room.ok.0, ap length c.requires.empty) in
+    let empty : vec_len c.args.room ≡ 0 = omega (arith, c.args.room.ok.0, ap length c.requires.fits.0) in
     let all : c.args.extent.size - vec_len c.args.room ≡ c.args.extent.size = omega (arith, empty) in
     record {
       told = λ listing is. (
         [],
-        c.requires.empty,
+        c.requires.fits.0,
         λ fin rest did.
             same-work (ap (λ k. look_up_names c.args.needs_nobody c.args.place (names_within k (behind c.args.extent.offset listing))) (sym all))
             (same-work (ap (λ names. look_up_names c.args.needs_nobody c.args.place (names_within (c.args.extent.size - vec_len c.args.room) names))
             (c.begin_behind-cursor.ensures.behind listing is)) did),
       );
       directories = refl;
-      capacity = c.requires.capacity;
+      capacity = c.requires.fits.1;
       within = omega (arith, empty);
-      names = omega (arith, empty, c.requires.names);
-      room = omega (arith, empty, c.requires.names, c.requires.room);
+      names = omega (arith, empty, c.requires.fits.2);
+      room = omega (arith, empty, c.requires.fits.2, c.requires.room);
       small = c.begin_behind-cursor.ensures.small;
     }
 

@@ -20,4 +20,4 @@ returns-in_err-pid g c =
 pub returns : goal.returns
 returns g c =
     then-ok _ c.in_ok-may_move.ensures (then-ok _ c.in_ok-dir_ino.ensures
-    (then-ok _ c.in_ok-new.ensures (then-ok _ c.in_ok-pid.ensures.did (rw c.dentry.ensures at c.move_to.ensures))))
+    (then-ok _ c.in_ok-new.ensures (then-ok _ c.in_ok-pid.ensures.did (rw c.dentry-old.ensures at c.move_to.ensures))))

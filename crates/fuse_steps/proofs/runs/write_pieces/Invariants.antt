@@ -9,6 +9,6 @@ use Rattle.fuse_steps.proofs.runs.write_pieces.Given as goal
 abbrev pub invariant-loop-round : goal.invariant-loop-round
 invariant-loop-round g l =
     ((fin : g.row.M.Denot) (r : Result ℕ RequestError)
-    → DidByMachine g.M.Machine.Serves (write_pieces l.pid l.done (map (Write l.fd) (pieces_in l.most (pieces_of l.most (length l.bytes) - l._round) l.rest))) l.machine fin r
-    → DidByMachine g.M.Machine.Serves (write_pieces l.pid 0 (writes_of l.most l.fd l.bytes)) l.initial.machine fin r)
+    → DidByMachine g.M.Machine.Serves (write_pieces l.file.pid l.done (map (Write l.file.fd) (pieces_in l.most (pieces_of l.most (length l.bytes) - l._round) l.rest))) l.machine fin r
+    → DidByMachine g.M.Machine.Serves (write_pieces l.file.pid 0 (writes_of l.most l.file.fd l.bytes)) l.initial.machine fin r)
     × (l.done + length l.rest ≤ length l.bytes) × (min (length l.rest) l.most ≤ length l.room)

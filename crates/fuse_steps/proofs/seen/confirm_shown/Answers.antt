@@ -21,12 +21,12 @@ unfolding confirm_shown
 returns-then-not-is_cut g c =
     machine-ok _ c.in_ok-status.ensures
     (machine-ok _ (machine-result c.in_ok-only_inode.ensures)
-    (machine-same (ap (λ (b : Bool). when b (done (obtain (Calls c.args.pid (Ftruncate c.args.fd 0))))) c.if-not-is_cut.true) (machine-gives _ _)))
+    (machine-same (ap (λ (b : Bool). when b (done (obtain (Calls c.args.file.pid (Ftruncate c.args.file.fd 0))))) c.if-not-is_cut.true) (machine-gives _ _)))
 
 pub returns : goal.returns
 unfolding confirm_shown
 returns g c =
     machine-ok _ c.in_ok-status.ensures
     (machine-ok _ (machine-result c.in_ok-only_inode.ensures)
-    (machine-same (ap (λ (b : Bool). when b (done (obtain (Calls c.args.pid (Ftruncate c.args.fd 0))))) c.if-not-is_cut.false)
+    (machine-same (ap (λ (b : Bool). when b (done (obtain (Calls c.args.file.pid (Ftruncate c.args.file.fd 0))))) c.if-not-is_cut.false)
     (machine-then _ c.obtain_once.ensures c.done.ensures)))

@@ -1,6 +1,6 @@
 use Rattle.std.proofs.Common.{ℕ, List, ap, ◌∙◌}
 use Rattle.fuse_steps.proofs.Swaps.{swapped-back, path-back}
-use Rattle.fuse_steps.proofs.paths.WithPathsBorrowerResultReplyRequestError.call_at.Goals as goal
+use Rattle.fuse_steps.proofs.paths.WithPathsBorrowerTriedReply.call_at.Goals as goal
 
 pub invariant_of-self : goal.invariant_of-self
 invariant_of-self g c = c.self.invariant
