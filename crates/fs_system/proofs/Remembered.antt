@@ -4,7 +4,9 @@ use Rattle.std.specs.Prelude.{not, count_by, Contains, IfSome}
 use Rattle.bit_alloc.specs.Bits.{clear_below}
 use Rattle.free_counts.specs.Known.{CountList, count_known, TellsClear}
 use Rattle.fs_layout.specs.Header.{header_of, log_end}
+use Rattle.sector_disk.specs.Disk.{DiskState}
 use Rattle.sector_txn.specs.Sectors.{TxnState}
+use Rattle.sector_txn.specs.Stores.{StoreView, present}
 use Rattle.std.specs.List.{range_with_len}
 use Rattle.fs_layout.specs.declared.geometry.Geometry.{Geometry}
 use Rattle.fs_layout.specs.Bytes.{SectorMap}
@@ -101,6 +103,13 @@ knows_same size size' old new known sized same knows = record {
   space = remembered_after size size' old new known.free sized same knows.space;
   counts_are = counts_after old new known.counts same knows.counts_are;
 }
+
+-- the same of what a store has
+pub knows_store : {D : Type 0} {known : KnownSpace} (state : D → DiskState) (old new : StoreView D) → (state new.disk).size ≡ (state old.disk).size
+    → SameMap (present state new) (present state old) → IsKnown (state old.disk).size (present state old) known
+    → IsKnown (state new.disk).size (present state new) known
+knows_store {D} {known} state old new sized same knows =
+    knows_same (state old.disk).size (state new.disk).size (present state old) (present state new) known sized same knows
 
 -- and but for some sectors, of one that differs in these alone
 pub knows_apart : (size : ℕ) (before now : SectorMap) (sectors : List ℕ) (known : KnownSpace) (counts : CountList) → (Contains sectors 0 → ⊥)

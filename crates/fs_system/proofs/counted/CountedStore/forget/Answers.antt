@@ -1,11 +1,5 @@
-use Rattle.sector_txn.specs.Stores.{present}
-use Rattle.fs_system.proofs.Remembered.{knows_same}
+use Rattle.fs_system.proofs.Remembered.{knows_store}
 use Rattle.fs_system.proofs.counted.CountedStore.forget.Goals as goal
 
 pub invariant_of-self : goal.invariant_of-self
-invariant_of-self g c =
-    let state = g.D.Disk.state in
-    let old = c.self.inside.store in
-    let new = c.forget.new.self in
-    knows_same (state old.disk).size (state new.disk).size (present state old) (present state new) c.self.inside.known
-    c.forget.ensures.past.same.narrowed.size c.forget.ensures.map c.self.invariant
+invariant_of-self g c = knows_store g.D.Disk.state c.self.inside.store c.forget.new.self c.forget.ensures.past.same.narrowed.size c.forget.ensures.map c.self.invariant
