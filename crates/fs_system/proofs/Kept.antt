@@ -1,5 +1,6 @@
 -- One event in a transaction that is begun on a store: its changes are kept, or dropped.
-use Rattle.std.proofs.Common.{◌≡◌, ◌≤◌, true, Result, Ok, Err, inl, inr, refl, sym, ap, subst, ◌∙◌, arith}
+use Rattle.std.proofs.Common.{◌≡◌, ◌≤◌, true, false, Result, Ok, Err, IsTrue, inl, inr, refl, sym, ap, subst, ◌∙◌, arith}
+use Rattle.std.specs.Prelude.{IsFalse}
 use Rattle.sector_disk.specs.Disk.{DiskState, Image, IsImage, OnlyReads, HasCause, HasFailed, HasFailedToWrite}
 use Rattle.fs_layout.specs.declared.geometry.Geometry.{Geometry}
 use Rattle.fs_cred.specs.declared.errno.Errno.TheVariants.{EIO}
@@ -16,6 +17,8 @@ use Rattle.fs_model.specs.declared.reply.Reply.{Reply}
 use Rattle.fs_model.specs.declared.reply.Reply.TheVariants.{Refused}
 use Rattle.fs_model.specs.Processes.{ProcessTable}
 use Rattle.fs_model.specs.States.{State}
+use Rattle.fs_model.specs.Steps.{Step}
+use Rattle.fs_model.specs.Stops.{makes_stable, is_io_error}
 use Rattle.call_parts.specs.Performing.{MayPerform, IsStateOf}
 use Rattle.fs_system.specs.Doing.{Does}
 use Rattle.fs_system.specs.declared.base.Base.TheVariants.{Running, Halted}
@@ -23,7 +26,7 @@ use Rattle.fs_system.specs.Running.{IsRunning}
 use Rattle.fs_system.specs.Seen.{IsOn}
 use Rattle.fs_system.proofs.Endings.{IsPerformed, done_state}
 use Rattle.fs_system.proofs.EventEnds.{begins_ready, event_runs, does_event, does_halt}
-use Rattle.fs_system.proofs.Ends.{running_same}
+use Rattle.fs_system.proofs.Ends.{does_reading, running_same}
 
 -- ---- what is so of the disk since the transaction began
 
@@ -87,7 +90,10 @@ module _ {D : Type 0} (state : D → DiskState) (p : Geometry) (store : StoreVie
     module _ (s : State) (r : IsRunning (state store.disk).size p (present state store) processes s)
         (only_now : (image : Image) → (state store.disk).left_since (state store.disk).moment image → IsImage (state store.disk) image)
         (super : map_now state last 0 ≡ map_now state begun 0) (now : ProcessTable) (e : Event) (reply : Reply)
-        (d : IsPerformed p (map_now state last) now s e reply) where
+        (performed : IsStateOf p (map_now state begun) processes s → IsPerformed p (map_now state last) now s e reply) where
+      d : IsPerformed p (map_now state last) now s e reply
+      d = performed (state_begun s r)
+
       reads : OnlyReads (state store.disk) (state last.disk)
       reads = only_read state store begun disk before last same
 
@@ -132,3 +138,21 @@ module _ {D : Type 0} (state : D → DiskState) (p : Geometry) (store : StoreVie
     runs_on after dropped back s r now tabled =
         running_same (state store.disk).size (state after.disk).size p (present state store) (present state after) processes now s
         (reads_alone state store begun disk before last same after.disk dropped).narrowed.size (same_chain (present state after) (map_before state last) (present state store) back before_is_store) tabled r
+
+    -- it was refused, and why is said of the two disks
+    pub refused_does : (after : StoreView D) → after.disk ≡ last.disk → SameMap (present state after) (map_before state last) → (s : State)
+        → IsRunning (state store.disk).size p (present state store) processes s → (now : ProcessTable) → now ≡ processes
+        → ((image : Image) → (state store.disk).left_since (state store.disk).moment image → IsImage (state store.disk) image)
+        → (P : DiskState → DiskState → Type 0) → (IsStateOf p (map_now state begun) processes s → P (state begun.disk) (state last.disk))
+        → (e : Event) (reply : Reply) → ((old new : DiskState) → IsFalse s.halted → P old new → Step s e reply s) → makes_stable e reply ≡ false
+        → ((old new : DiskState) → P old new → IsTrue (is_io_error reply) → HasFailed old new)
+        → (t : State) × IsOn state p s.now now (Running after) t × Does (state store.disk) (state after.disk) s e reply t
+    refused_does after dropped back s r now tabled only_now P said e reply steps unstable why =
+        let old = state store.disk in
+        let new = state after.disk in
+        let refused : P old new = of_stores state store begun disk before last same after.disk dropped P (said (state_begun s r)) in (
+          s,
+          (runs_on after dropped back s r now tabled, refl),
+          does_reading old new only_now (reads_alone state store begun disk before last same after.disk dropped) s s e reply r.state_of.up r.state_of.up
+              (steps old new r.state_of.up refused) unstable (why old new refused),
+        )

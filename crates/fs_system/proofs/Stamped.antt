@@ -58,7 +58,7 @@ use Rattle.call_parts.specs.Times.{with_times}
 use Rattle.call_parts.proofs.Calling.{state_tree}
 use Rattle.call_parts.proofs.Changed.{rewritten}
 use Rattle.call_parts.proofs.Shown.{the_node_is}
-use Rattle.fs_system.specs.Stamping.{IsStamped, IsNotStamped, absent, read_fails}
+use Rattle.fs_system.specs.Stamping.{AreCounts, IsStamped, IsNotStamped, absent, read_fails}
 use Rattle.fs_system.proofs.Endings.{IsPerformed}
 use Rattle.fs_system.proofs.StampedNodes.{stamps_fit, stamped_held}
 
@@ -235,10 +235,10 @@ abbrev put_after : State → ℕ → Option ℕ → Option ℕ → Option ℕ �
 put_after s n atime mtime ctime = after_stamp s n (stamped atime mtime ctime)
 
 pub stamp_performed : {p : Geometry} {map old_map : SectorMap} {processes : ProcessTable} {s : State} {n : ℕ} {atime mtime ctime : Option ℕ} {x : Stamps}
-    → IsStateOf p old_map processes s → IsSomeCount atime → IsSomeCount mtime → IsSomeCount ctime → IsStamped p map s n atime mtime ctime x
+    → IsStateOf p old_map processes s → AreCounts atime mtime ctime → IsStamped p map s n atime mtime ctime x
     → IsPerformed p map processes s (Stamp n atime mtime ctime) (Stamped x)
 unfolding after
-stamp_performed {p} {map} {old_map} {processes} {s} {n} {atime} {mtime} {ctime} {x} at a m c d = record {
+stamp_performed {p} {map} {old_map} {processes} {s} {n} {atime} {mtime} {ctime} {x} at counts d = record {
   machine = refl;
   unstable = refl;
   early = stamp_firm s n atime mtime ctime;
@@ -251,7 +251,7 @@ stamp_performed {p} {map} {old_map} {processes} {s} {n} {atime} {mtime} {ctime} 
   new_number = tt;
   new_pid = tt;
   left = subst (λ (t : ProcessTable). MayBeLeft s.room (changed s.tree (put_after s n atime mtime ctime).change) t) at.same_processes
-      (stamp_leaves s n atime mtime ctime at.is_state at.up a m c d.late);
+      (stamp_leaves s n atime mtime ctime at.is_state at.up counts.0 counts.1 counts.2 d.late);
   holds = subst (λ (t : ProcessTable). HoldsAll p map (placed (touched s.now (touches s.room s.tree (put_after s n atime mtime ctime).change) (swept (changed s.tree (put_after s n atime mtime ctime).change) t)))) at.same_processes
       d.holds;
 }

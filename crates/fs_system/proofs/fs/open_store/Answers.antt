@@ -1,6 +1,6 @@
 use Rattle.std.proofs.Common.{arith, ◌≤◌, sym, ap, subst, ◌∙◌}
 use Rattle.sector_disk.specs.Disk.{LeavesOnly}
-use Rattle.redo_journal.specs.Meaning.{MeansAsBefore, data_of}
+use Rattle.redo_journal.specs.Meaning.{HasValidCommit, MeansAsBefore, data_of}
 use Rattle.redo_journal.proofs.Meaning.{same_chain}
 use Rattle.sector_txn.specs.Stores.{present}
 use Rattle.fs_images.proofs.Places.{many_sectors}
@@ -57,3 +57,15 @@ returns-in-Err-DiskFault-default-clause-size g c = c.in-Err-DiskFault-default.en
 
 pub returns-in-Err-DiskFault-default-clause-later : goal.returns-in-Err-DiskFault-default-clause-later
 returns-in-Err-DiskFault-default-clause-later g c = c.in-Err-DiskFault-default.ensures.later
+
+pub returns-in-Err-clause-cause : goal.returns-in-Err-clause-cause
+returns-in-Err-clause-cause g c = λ device. absurd cc
+
+pub returns-in-Err-DiskFault-default-clause-cause : goal.returns-in-Err-DiskFault-default-clause-cause
+returns-in-Err-DiskFault-default-clause-cause g c = λ device. c.in-Err-DiskFault-default.ensures.cause c.in-Err-DiskFault-default.field-0-0-is
+
+pub unreachable-requires : goal.unreachable-requires
+unreachable-requires g c =
+    let fault = c.in-Err-BadCommitSector-default in
+    let disk = g.D.Disk.state c.args.disk in
+    fault.ensures.invalid fault.field-0-0-is (subst (λ n. HasValidCommit n disk.seen) (g.met.D.Disk.seen_is_image c.args.disk).size c.requires.3.commit_is)

@@ -1,4 +1,4 @@
-use Rattle.std.proofs.Common.{rules, ◌≡◌, ◌≢◌, sym, ap, ◌∙◌}
+use Rattle.std.proofs.Common.{rules, ◌≡◌, ◌≢◌, refl, sym, ap, ◌∙◌}
 use Rattle.fs_layout.specs.declared.inode.Inode.{Inode}
 use Rattle.fs_layout.specs.declared.inode.Kind.TheVariants as kinds
 use Rattle.fs_layout.specs.Bytes.{SectorMap}
@@ -8,7 +8,7 @@ use Rattle.call_parts.specs.Performing.{IsStateOf}
 use Rattle.call_parts.specs.Times.{with_times}
 use Rattle.fs_model.specs.Nodes.{stamped}
 use Rattle.fs_model.specs.StoredStamps.{stamps_in}
-use Rattle.fs_system.specs.Stamping.{absent}
+use Rattle.fs_system.specs.Stamping.{absent, read_fails}
 use Rattle.fs_system.proofs.Stamped.{none_past, none_free, here, stamp_absent, same_stamped, no_times, none_given, saved_stamped}
 use Rattle.fs_system.proofs.StampedNodes.{given_fits, stamps_given}
 use Rattle.fs_system.proofs.stamping.stamp.Goals.{then-not-keeps_times-via-then-not-keeps_times, then-not-keeps_times-via-else-not-keeps_times+then-gives_none}
@@ -92,3 +92,9 @@ returns-clause-store g c = store_joined c.in-Ok.ensures.same.store c.in-Ok-save.
 
 pub returns-clause-superblock : goal.returns-clause-superblock
 returns-clause-superblock g c = c.in-Ok-save.ensures.touches.super ∙ c.in-Ok.ensures.same.sectors 0
+
+pub returns-in_default-clause-store : goal.returns-in_default-clause-store
+returns-in_default-clause-store g c = c.in_default.ensures.same.store
+
+pub returns-in_default-clause-each : goal.returns-in_default-clause-each
+returns-in_default-clause-each g c = λ processes t at. read_fails c.in_default.ensures.cause.fault refl

@@ -1,13 +1,11 @@
 use Rattle.std.proofs.Common.{refl, subst}
-use Rattle.sector_disk.specs.Disk.{DiskState}
 use Rattle.fs_cred.specs.declared.refusal.Refusal.{Refusal}
 use Rattle.fs_cred.specs.declared.refusal.Refusal.TheVariants.{Failed}
 use Rattle.fs_model.specs.declared.event.Event.TheVariants.{Exit}
 use Rattle.fs_model.specs.declared.reply.Reply.TheVariants.{Done, Refused}
 use Rattle.file_calls.specs.Exiting.{IsNotExited}
 use Rattle.fs_system.proofs.Endings.{exit_performed, exit_refused_steps, why_exit_failed, exit_errno}
-use Rattle.fs_system.proofs.Ends.{does_reading}
-use Rattle.fs_system.proofs.Kept.{begins, state_begun, kept_does, broken_does, of_stores, reads_alone, runs_on}
+use Rattle.fs_system.proofs.Kept.{begins, state_begun, kept_does, broken_does, refused_does}
 use Rattle.fs_system.proofs.stored.exit_kept.Goals as goal
 
 pub exit-requires : goal.exit-requires
@@ -25,12 +23,10 @@ unreachable-requires g c =
 
 pub returns-in-Ok-keep : goal.returns-in-Ok-keep
 returns-in-Ok-keep g c = record {
-  does = λ s r.
-      let kept = c.in-Ok-keep.ensures in
-      kept_does g.D.Disk.state c.args.geometry c.args.store c.args.procs.now c.begin-txn.result.0 c.begin-txn.ensures.disk c.begin-txn.ensures.map c.begin-txn.ensures.before
+  does = λ s r. kept_does g.D.Disk.state c.args.geometry c.args.store c.args.procs.now c.begin-txn.result.0 c.begin-txn.ensures.disk c.begin-txn.ensures.map c.begin-txn.ensures.before
       c.exit.new.s c.in-Ok.ensures.store s r (g.met.D.Disk.only_now c.args.store.disk) c.in-Ok.ensures.super c.exit.new.procs (Exit c.args.pid) Done
-      (let at = state_begun g.D.Disk.state c.args.geometry c.args.store c.args.procs.now c.begin-txn.result.0 c.begin-txn.ensures.disk c.begin-txn.ensures.map c.begin-txn.ensures.before s r in
-      exit_performed at (c.in-Ok.ensures.each s at)) c.in-Ok-keep.store kept.map kept.images kept.cause.later kept.told.quiet;
+      (λ at. exit_performed at (c.in-Ok.ensures.each s at)) c.in-Ok-keep.store
+      c.in-Ok-keep.ensures.map c.in-Ok-keep.ensures.images c.in-Ok-keep.ensures.cause.later c.in-Ok-keep.ensures.told.quiet;
 }
 
 pub returns-in-Err : goal.returns-in-Err
@@ -39,36 +35,20 @@ returns-in-Err g c = record {
       let broke = c.in-Err.ensures in
       broken_does g.D.Disk.state c.args.geometry c.args.store c.args.procs.now c.begin-txn.result.0 c.begin-txn.ensures.disk c.begin-txn.ensures.map c.begin-txn.ensures.before
       c.exit.new.s c.in-Ok.ensures.store s r (g.met.D.Disk.only_now c.args.store.disk) c.in-Ok.ensures.super c.exit.new.procs (Exit c.args.pid) Done
-      (let at = state_begun g.D.Disk.state c.args.geometry c.args.store c.args.procs.now c.begin-txn.result.0 c.begin-txn.ensures.disk c.begin-txn.ensures.map c.begin-txn.ensures.before s r in
-      exit_performed at (c.in-Ok.ensures.each s at)) c.in-Err.broken broke.images broke.cause.later broke.cause.fault broke.told.fault _ refl;
+      (λ at. exit_performed at (c.in-Ok.ensures.each s at)) c.in-Err.broken broke.images broke.cause.later broke.cause.fault broke.told.fault _ refl;
 }
 
 pub returns-in-Err-Failed : goal.returns-in-Err-Failed
 returns-in-Err-Failed g c = record {
   does = λ s r.
-      let state = g.D.Disk.state in
-      let old = state c.args.store.disk in
-      let new = state c.drop_delta.result.disk in
       let pid = c.args.pid in
       let why = Failed c.in-Err-Failed.errno in
       let said = c.in-Err-Failed.ensures in
-      let at = state_begun g.D.Disk.state c.args.geometry c.args.store c.args.procs.now c.begin-txn.result.0 c.begin-txn.ensures.disk c.begin-txn.ensures.map c.begin-txn.ensures.before s r in
-      let refused : IsNotExited old new s pid why =
-      of_stores g.D.Disk.state c.args.store c.begin-txn.result.0 c.begin-txn.ensures.disk c.begin-txn.ensures.before c.exit.new.s said.store
-      c.drop_delta.result.disk c.drop_delta.ensures.disk (λ (o n : DiskState). IsNotExited o n s pid why)
-      (subst (λ (q : Refusal). IsNotExited (state c.begin-txn.result.0.disk) (state c.exit.new.s.disk) s pid q) c.in-Err-Failed.field-0-is (said.each s at)) in (
-        s,
-        (
-          runs_on g.D.Disk.state c.args.geometry c.args.store c.args.procs.now c.begin-txn.result.0 c.begin-txn.ensures.disk c.begin-txn.ensures.map c.begin-txn.ensures.before
-              c.exit.new.s said.store c.drop_delta.result c.drop_delta.ensures.disk c.drop_delta.ensures.map s r c.exit.new.procs said.table,
-          refl,
-        ),
-        does_reading old new (g.met.D.Disk.only_now c.args.store.disk)
-            (reads_alone g.D.Disk.state c.args.store c.begin-txn.result.0 c.begin-txn.ensures.disk c.begin-txn.ensures.before c.exit.new.s said.store
-            c.drop_delta.result.disk c.drop_delta.ensures.disk)
-            s s (Exit pid) (Refused why) r.state_of.up r.state_of.up (exit_refused_steps old new s pid why r.state_of.up refused) refl
-            (why_exit_failed old new s pid why refused),
-      );
+      refused_does g.D.Disk.state c.args.geometry c.args.store c.args.procs.now c.begin-txn.result.0 c.begin-txn.ensures.disk c.begin-txn.ensures.map c.begin-txn.ensures.before
+      c.exit.new.s said.store c.drop_delta.result c.drop_delta.ensures.disk c.drop_delta.ensures.map s r c.exit.new.procs said.table
+      (g.met.D.Disk.only_now c.args.store.disk) (λ old new. IsNotExited old new s pid why)
+      (λ at. subst (λ (q : Refusal). IsNotExited (g.D.Disk.state c.begin-txn.result.0.disk) (g.D.Disk.state c.exit.new.s.disk) s pid q) c.in-Err-Failed.field-0-is (said.each s at))
+      (Exit pid) (Refused why) (λ old new. exit_refused_steps old new s pid why) refl (λ old new. why_exit_failed old new s pid why);
 }
 
 pub keep-requires : goal.keep-requires

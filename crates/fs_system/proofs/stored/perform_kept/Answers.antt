@@ -1,11 +1,9 @@
 use Rattle.std.proofs.Common.{refl}
-use Rattle.sector_disk.specs.Disk.{DiskState}
 use Rattle.fs_model.specs.declared.event.Event.TheVariants.{Call as Calls}
 use Rattle.fs_model.specs.declared.reply.Reply.TheVariants.{Refused}
 use Rattle.call_parts.specs.Performing.{IsRefused}
 use Rattle.fs_system.proofs.Endings.{call_performed, refused_steps, why_failed}
-use Rattle.fs_system.proofs.Ends.{does_reading}
-use Rattle.fs_system.proofs.Kept.{begins, state_begun, kept_does, broken_does, of_stores, reads_alone, runs_on}
+use Rattle.fs_system.proofs.Kept.{begins, kept_does, broken_does, refused_does}
 use Rattle.fs_system.proofs.stored.perform_kept.Goals as goal
 
 pub perform-requires : goal.perform-requires
@@ -16,50 +14,31 @@ perform-requires g c = record {
 
 pub returns-in-Ok-keep : goal.returns-in-Ok-keep
 returns-in-Ok-keep g c = record {
-  does = λ s r told.
-      let at = state_begun g.D.Disk.state c.args.geometry c.args.store c.args.procs.now c.begin-txn.result.0 c.begin-txn.ensures.disk c.begin-txn.ensures.map c.begin-txn.ensures.before s r in
-      let kept = c.in-Ok-keep.ensures in
-      kept_does g.D.Disk.state c.args.geometry c.args.store c.args.procs.now c.begin-txn.result.0 c.begin-txn.ensures.disk c.begin-txn.ensures.map c.begin-txn.ensures.before
-      c.perform.new.s c.in-Ok.ensures.store s r (g.met.D.Disk.only_now c.args.store.disk) c.in-Ok.ensures.super c.perform.new.procs
-      (Calls c.args.pid c.args.call.now) c.in-Ok.reply (call_performed at told c.call_is_in_range.ensures (c.in-Ok.ensures.each s at))
-      c.in-Ok-keep.store kept.map kept.images kept.cause.later kept.told.quiet;
+  does = λ s r told. kept_does g.D.Disk.state c.args.geometry c.args.store c.args.procs.now c.begin-txn.result.0 c.begin-txn.ensures.disk c.begin-txn.ensures.map c.begin-txn.ensures.before
+      c.perform.new.s c.in-Ok.ensures.store s r (g.met.D.Disk.only_now c.args.store.disk) c.in-Ok.ensures.super c.perform.new.procs (Calls c.args.pid c.args.call.now) c.in-Ok.reply
+      (λ at. call_performed at told c.call_is_in_range.ensures (c.in-Ok.ensures.each s at)) c.in-Ok-keep.store
+      c.in-Ok-keep.ensures.map c.in-Ok-keep.ensures.images c.in-Ok-keep.ensures.cause.later c.in-Ok-keep.ensures.told.quiet;
 }
 
 pub returns-in-Err-keep : goal.returns-in-Err-keep
 returns-in-Err-keep g c = record {
   does = λ s r told.
-      let at = state_begun g.D.Disk.state c.args.geometry c.args.store c.args.procs.now c.begin-txn.result.0 c.begin-txn.ensures.disk c.begin-txn.ensures.map c.begin-txn.ensures.before s r in
       let broke = c.in-Err-keep.ensures in
       broken_does g.D.Disk.state c.args.geometry c.args.store c.args.procs.now c.begin-txn.result.0 c.begin-txn.ensures.disk c.begin-txn.ensures.map c.begin-txn.ensures.before
-      c.perform.new.s c.in-Ok.ensures.store s r (g.met.D.Disk.only_now c.args.store.disk) c.in-Ok.ensures.super c.perform.new.procs
-      (Calls c.args.pid c.args.call.now) c.in-Ok.reply (call_performed at told c.call_is_in_range.ensures (c.in-Ok.ensures.each s at))
-      c.in-Err-keep.broken broke.images broke.cause.later broke.cause.fault broke.told.fault c.failed.result c.failed.ensures;
+      c.perform.new.s c.in-Ok.ensures.store s r (g.met.D.Disk.only_now c.args.store.disk) c.in-Ok.ensures.super c.perform.new.procs (Calls c.args.pid c.args.call.now) c.in-Ok.reply
+      (λ at. call_performed at told c.call_is_in_range.ensures (c.in-Ok.ensures.each s at)) c.in-Err-keep.broken
+      broke.images broke.cause.later broke.cause.fault broke.told.fault c.failed.result c.failed.ensures;
 }
 
 pub returns-in-Err : goal.returns-in-Err
 returns-in-Err g c = record {
   does = λ s r told.
-      let old = g.D.Disk.state c.args.store.disk in
-      let new = g.D.Disk.state c.drop_delta.result.disk in
       let call = c.args.call.now in
       let why = c.in-Err.refusal in
-      let refused : IsRefused old new s c.args.pid call why =
-      of_stores g.D.Disk.state c.args.store c.begin-txn.result.0 c.begin-txn.ensures.disk c.begin-txn.ensures.before c.perform.new.s
-      c.in-Err.ensures.store c.drop_delta.result.disk c.drop_delta.ensures.disk (λ (o n : DiskState). IsRefused o n s c.args.pid call why)
-      (c.in-Err.ensures.each s (state_begun g.D.Disk.state c.args.geometry c.args.store c.args.procs.now c.begin-txn.result.0 c.begin-txn.ensures.disk c.begin-txn.ensures.map c.begin-txn.ensures.before s r)) in (
-        s,
-        (
-          runs_on g.D.Disk.state c.args.geometry c.args.store c.args.procs.now c.begin-txn.result.0 c.begin-txn.ensures.disk c.begin-txn.ensures.map c.begin-txn.ensures.before
-              c.perform.new.s c.in-Err.ensures.store c.drop_delta.result c.drop_delta.ensures.disk c.drop_delta.ensures.map s r c.perform.new.procs
-              c.in-Err.ensures.table,
-          refl,
-        ),
-        does_reading old new (g.met.D.Disk.only_now c.args.store.disk)
-            (reads_alone g.D.Disk.state c.args.store c.begin-txn.result.0 c.begin-txn.ensures.disk c.begin-txn.ensures.before c.perform.new.s
-            c.in-Err.ensures.store c.drop_delta.result.disk c.drop_delta.ensures.disk)
-            s s (Calls c.args.pid call) (Refused why) r.state_of.up r.state_of.up (refused_steps old new s c.args.pid call why r.state_of.up refused) refl
-            (why_failed old new s c.args.pid call why refused),
-      );
+      refused_does g.D.Disk.state c.args.geometry c.args.store c.args.procs.now c.begin-txn.result.0 c.begin-txn.ensures.disk c.begin-txn.ensures.map c.begin-txn.ensures.before
+      c.perform.new.s c.in-Err.ensures.store c.drop_delta.result c.drop_delta.ensures.disk c.drop_delta.ensures.map s r c.perform.new.procs c.in-Err.ensures.table
+      (g.met.D.Disk.only_now c.args.store.disk) (λ old new. IsRefused old new s c.args.pid call why) (c.in-Err.ensures.each s) (Calls c.args.pid call) (Refused why)
+      (λ old new. refused_steps old new s c.args.pid call why) refl (λ old new. why_failed old new s c.args.pid call why);
 }
 
 pub keep-requires : goal.keep-requires

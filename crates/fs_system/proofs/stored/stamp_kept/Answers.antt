@@ -1,11 +1,9 @@
 use Rattle.std.proofs.Common.{refl, arith}
-use Rattle.sector_disk.specs.Disk.{DiskState}
 use Rattle.fs_cred.specs.declared.refusal.Refusal.TheVariants.{Failed}
 use Rattle.fs_model.specs.declared.event.Event.TheVariants.{Stamp}
 use Rattle.fs_model.specs.declared.reply.Reply.TheVariants.{Stamped, Refused}
 use Rattle.fs_system.specs.Stamping.{IsNotStamped}
-use Rattle.fs_system.proofs.Ends.{does_reading}
-use Rattle.fs_system.proofs.Kept.{begins, state_begun, kept_does, broken_does, of_stores, reads_alone, runs_on}
+use Rattle.fs_system.proofs.Kept.{begins, kept_does, broken_does, refused_does}
 use Rattle.fs_system.proofs.Stamped.{stamp_performed, stamp_refused_steps, why_not_stamped}
 use Rattle.fs_system.proofs.stored.stamp_kept.Goals as goal
 
@@ -18,56 +16,31 @@ stamp-requires g c =
 
 pub returns-in-Ok-keep : goal.returns-in-Ok-keep
 returns-in-Ok-keep g c = record {
-  does = λ s r.
-      let counts = c.times_are_in_range.ensures in
-      let at = state_begun g.D.Disk.state c.args.geometry c.args.store c.args.procs.now c.begin-txn.result.0 c.begin-txn.ensures.disk c.begin-txn.ensures.map c.begin-txn.ensures.before s r in
-      let kept = c.in-Ok-keep.ensures in
-      kept_does g.D.Disk.state c.args.geometry c.args.store c.args.procs.now c.begin-txn.result.0 c.begin-txn.ensures.disk c.begin-txn.ensures.map c.begin-txn.ensures.before
+  does = λ s r. kept_does g.D.Disk.state c.args.geometry c.args.store c.args.procs.now c.begin-txn.result.0 c.begin-txn.ensures.disk c.begin-txn.ensures.map c.begin-txn.ensures.before
       c.stamp.new.s c.in-Ok.ensures.store s r (g.met.D.Disk.only_now c.args.store.disk) c.in-Ok.ensures.superblock c.args.procs.now
-      (Stamp c.args.ino c.args.atime c.args.mtime c.args.ctime) (Stamped c.in-Ok.stamps)
-      (stamp_performed at counts.0 counts.1 counts.2 (c.in-Ok.ensures.each c.args.procs.now s at))
-      c.in-Ok-keep.store kept.map kept.images kept.cause.later kept.told.quiet;
+      (Stamp c.args.ino c.args.atime c.args.mtime c.args.ctime) (Stamped c.in-Ok.stamps) (λ at. stamp_performed at c.times_are_in_range.ensures (c.in-Ok.ensures.each c.args.procs.now s at))
+      c.in-Ok-keep.store c.in-Ok-keep.ensures.map c.in-Ok-keep.ensures.images c.in-Ok-keep.ensures.cause.later c.in-Ok-keep.ensures.told.quiet;
 }
 
 pub returns-in-Err-keep : goal.returns-in-Err-keep
 returns-in-Err-keep g c = record {
   does = λ s r.
-      let counts = c.times_are_in_range.ensures in
-      let at = state_begun g.D.Disk.state c.args.geometry c.args.store c.args.procs.now c.begin-txn.result.0 c.begin-txn.ensures.disk c.begin-txn.ensures.map c.begin-txn.ensures.before s r in
       let broke = c.in-Err-keep.ensures in
       broken_does g.D.Disk.state c.args.geometry c.args.store c.args.procs.now c.begin-txn.result.0 c.begin-txn.ensures.disk c.begin-txn.ensures.map c.begin-txn.ensures.before
       c.stamp.new.s c.in-Ok.ensures.store s r (g.met.D.Disk.only_now c.args.store.disk) c.in-Ok.ensures.superblock c.args.procs.now
-      (Stamp c.args.ino c.args.atime c.args.mtime c.args.ctime) (Stamped c.in-Ok.stamps)
-      (stamp_performed at counts.0 counts.1 counts.2 (c.in-Ok.ensures.each c.args.procs.now s at))
+      (Stamp c.args.ino c.args.atime c.args.mtime c.args.ctime) (Stamped c.in-Ok.stamps) (λ at. stamp_performed at c.times_are_in_range.ensures (c.in-Ok.ensures.each c.args.procs.now s at))
       c.in-Err-keep.broken broke.images broke.cause.later broke.cause.fault broke.told.fault _ refl;
 }
 
 pub returns-in-Err : goal.returns-in-Err
 returns-in-Err g c = record {
   does = λ s r.
-      let state = g.D.Disk.state in
-      let old = state c.args.store.disk in
-      let new = state c.drop_delta.result.disk in
       let why = c.in-Err.errno in
-      let said = c.in-Err.ensures in
-      let at = state_begun state c.args.geometry c.args.store c.args.procs.now c.begin-txn.result.0 c.begin-txn.ensures.disk c.begin-txn.ensures.map c.begin-txn.ensures.before s r in
-      let refused : IsNotStamped old new s c.args.ino c.args.atime c.args.mtime c.args.ctime why =
-      of_stores state c.args.store c.begin-txn.result.0 c.begin-txn.ensures.disk c.begin-txn.ensures.before c.stamp.new.s said.store
-      c.drop_delta.result.disk c.drop_delta.ensures.disk
-      (λ (o n : DiskState). IsNotStamped o n s c.args.ino c.args.atime c.args.mtime c.args.ctime why) (said.each c.args.procs.now s at) in (
-        s,
-        (
-          runs_on state c.args.geometry c.args.store c.args.procs.now c.begin-txn.result.0 c.begin-txn.ensures.disk c.begin-txn.ensures.map c.begin-txn.ensures.before
-              c.stamp.new.s said.store c.drop_delta.result c.drop_delta.ensures.disk c.drop_delta.ensures.map s r c.args.procs.now refl,
-          refl,
-        ),
-        does_reading old new (g.met.D.Disk.only_now c.args.store.disk)
-            (reads_alone state c.args.store c.begin-txn.result.0 c.begin-txn.ensures.disk c.begin-txn.ensures.before c.stamp.new.s said.store
-            c.drop_delta.result.disk c.drop_delta.ensures.disk)
-            s s (Stamp c.args.ino c.args.atime c.args.mtime c.args.ctime) (Refused (Failed why)) r.state_of.up r.state_of.up
-            (stamp_refused_steps old new s c.args.ino c.args.atime c.args.mtime c.args.ctime why r.state_of.up refused) refl
-            (why_not_stamped old new s c.args.ino c.args.atime c.args.mtime c.args.ctime why refused),
-      );
+      refused_does g.D.Disk.state c.args.geometry c.args.store c.args.procs.now c.begin-txn.result.0 c.begin-txn.ensures.disk c.begin-txn.ensures.map c.begin-txn.ensures.before
+      c.stamp.new.s c.in-Err.ensures.store c.drop_delta.result c.drop_delta.ensures.disk c.drop_delta.ensures.map s r c.args.procs.now refl
+      (g.met.D.Disk.only_now c.args.store.disk) (λ old new. IsNotStamped old new s c.args.ino c.args.atime c.args.mtime c.args.ctime why) (c.in-Err.ensures.each c.args.procs.now s)
+      (Stamp c.args.ino c.args.atime c.args.mtime c.args.ctime) (Refused (Failed why))
+      (λ old new. stamp_refused_steps old new s c.args.ino c.args.atime c.args.mtime c.args.ctime why) refl (λ old new. why_not_stamped old new s c.args.ino c.args.atime c.args.mtime c.args.ctime why);
 }
 
 pub keep-requires : goal.keep-requires
