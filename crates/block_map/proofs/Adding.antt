@@ -9,7 +9,7 @@ use Rattle.fs_layout.specs.Bytes.{SectorMap}
 use Rattle.fs_layout.specs.Images.{own_count, holder, level_end, first_block, number_on, Holds, free_sectors}
 use Rattle.fs_layout.specs.Lacking.{lacks_from}
 use Rattle.sector_txn.specs.Sectors.{TxnState, PutsOnly, lacking}
-use Rattle.sector_txn.proofs.TransactionRuns.{changes_nothing, changes_joined, changes_weaker, store_joined, lacking_less}
+use Rattle.sector_txn.proofs.TransactionRuns.{changes_nothing, changes_joined, changes_weaker, lacking_less}
 use Rattle.bit_alloc.specs.Room.{bitmaps, HasSpare}
 use Rattle.block_map.specs.Steps.{MayChange, IsStepSector, HasRoomFor, Alters, lack, lacks_on, lacks_pointers, most_for, numbers_on, sectors_to, pointers_of, pointer_sectors, AddsSector, AddsNumbers, AddsPointers}
 use Rattle.block_map.proofs.Alterings.{alters_joined, may_after}

@@ -4,6 +4,7 @@ pub mod Alterings
 pub mod Clearings
 pub mod Counts
 pub mod Dropping
+pub mod Failing
 pub mod Filling
 pub mod Freeings
 pub mod Givings

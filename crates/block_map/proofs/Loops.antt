@@ -110,11 +110,18 @@ joined_piece bytes x piece offset k m start done len next is few e ends room =
       | inr same ↦ ap (λ (n : ℕ). take n x) same
     ]
 
+-- how long a part of the bytes is
+pub part_long : (x : List ℕ) (done len : ℕ) → done + len ≤ length x → length (take (done + len - done) (drop done x)) ≡ len
+part_long x done len fits =
+    let rest = length-drop done x in
+    let wide = length-take-le (done + len - done) (drop done x) (omega (arith, rest, fits)) in omega (arith, wide)
+
 -- where a run of whole blocks stands among the bytes, and among the blocks up to `end`
 pub record IsRunOf (x : List ℕ) (offset k done run end : ℕ) : Type 0 where
   pub begins : 512 * k ≡ offset + done
   pub within : k + run ≤ end
   pub fits : done + 512 * run ≤ length x
+  pub long : length (take (done + 512 * run - done) (drop done x)) ≡ 512 * run
   pub count : length (take (done + 512 * run - done) (drop done x)) / 512 ≡ run
 
 -- at most so many blocks are whole there, if one begins there
@@ -128,6 +135,7 @@ run_of x offset k done run end some few first whole at_is done_is end_is below =
       begins = omega (arith, here, at_is, done_is);
       within = omega (arith, here, at_is, done_is, some, few, whole, end_is);
       fits = omega (arith, some, few, whole);
+      long = omega (arith, wide);
       count = omega (arith, wide);
     }
 

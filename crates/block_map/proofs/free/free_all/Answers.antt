@@ -5,7 +5,7 @@ use Rattle.bit_alloc.proofs.Transactions.{bitmaps_unchanged}
 use Rattle.bit_alloc.proofs.Soundness.{sound_then, spare_then}
 use Rattle.inode_table.proofs.Sound.{room_left}
 use Rattle.inode_table.proofs.StoredAcls.{acl_in_data, default_acl_in_data}
-use Rattle.sector_txn.proofs.TransactionRuns.{store_joined}
+use Rattle.sector_txn.proofs.TransactionRuns.{store_joined, store_same}
 use Rattle.block_map.proofs.Freeings.{cleared_puts, given_puts, access_puts, default_puts, may_change_then, IsFreed, all_freed}
 use Rattle.bit_alloc.proofs.Passing.{fault_on, no_fault}
 use Rattle.block_map.proofs.free.free_all.Goals as goal
@@ -100,3 +100,10 @@ returns g c =
       unused = f.unused;
       cause = no_fault f.touches.puts.store;
     }
+
+-- ---- where a call fails, and where none does
+pub returns-in_err-inode-clause-store : goal.returns-in_err-inode-clause-store
+returns-in_err-inode-clause-store g c = c.in_err-inode.ensures.same.store
+
+pub returns-in_err-inode-clause-cause : goal.returns-in_err-inode-clause-cause
+returns-in_err-inode-clause-cause g c = fault_on (store_same {txn = g.S.Sectors.state c.args.s.now}) c.in_err-inode.ensures.cause c.from_residual.result c.from_residual.ensures

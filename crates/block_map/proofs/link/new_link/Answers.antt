@@ -1,9 +1,10 @@
-use Rattle.std.proofs.Common.{length, refl, sym, ◌∙◌, arith, rules, inr}
+use Rattle.std.proofs.Common.{length, refl, sym, ◌∙◌, arith, rules, inl, inr, ◌≢◌}
 use Rattle.bit_alloc.proofs.Soundness.{free_kept, sound_then}
 use Rattle.bit_alloc.proofs.Passing.{through_try, cause_on, other_fault_on}
 use Rattle.block_map.proofs.Linking.{link_fits, IsMade, link_made}
 use Rattle.block_map.proofs.Rewritten.{filled}
-use Rattle.sector_txn.proofs.TransactionRuns.{store_joined}
+use Rattle.sector_txn.proofs.TransactionRuns.{store_joined, store_same}
+use Rattle.bit_alloc.specs.declared.bitmap.TakeFault.TheVariants.{Full, DiskFault}
 use Rattle.block_map.proofs.link.new_link.Goals as goal
 
 pub returns-in_err-link-clause-full : goal.returns-in_err-link-clause-full
@@ -47,3 +48,19 @@ returns-in_err-write_inode-clause-store g c = store_joined (store_joined c.in_ok
 pub returns-in_err-write_inode-clause-cause : goal.returns-in_err-write_inode-clause-cause
 returns-in_err-write_inode-clause-cause g c =
     other_fault_on (store_joined c.in_ok-ino.ensures.puts.store c.in_ok-link.ensures.taken.puts.store) c.in_err-write_inode.ensures.cause c.from_residual-in_err-write_inode.result c.from_residual-in_err-write_inode.ensures.0
+
+-- ---- where a call fails, and where none does
+of_disk : DiskFault ≢ Full
+of_disk is = cc
+
+pub returns-in_err-ino-clause-store : goal.returns-in_err-ino-clause-store
+returns-in_err-ino-clause-store g c = c.in_err-ino.ensures.unchanged.store
+
+pub returns-in_err-ino-clause-cause : goal.returns-in_err-ino-clause-cause
+returns-in_err-ino-clause-cause g c = cause_on (store_same {txn = g.S.Sectors.state c.args.s.now}) c.in_err-ino.ensures.cause c.from_residual.result c.from_residual.ensures
+
+pub returns-in_err-ino-clause-full : goal.returns-in_err-ino-clause-full
+returns-in_err-ino-clause-full g c = through_try _ c.from_residual.result c.in_err-ino.field-0.0 c.from_residual.ensures (λ full. inl (c.in_err-ino.ensures.full full))
+
+pub returns-in_err-write_inode-clause-full : goal.returns-in_err-write_inode-clause-full
+returns-in_err-write_inode-clause-full g c = through_try _ c.from_residual-in_err-write_inode.result DiskFault c.from_residual-in_err-write_inode.ensures (λ full. absurd (of_disk full))

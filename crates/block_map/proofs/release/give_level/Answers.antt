@@ -1,15 +1,15 @@
-use Rattle.std.proofs.Common.{◌≡◌, ◌+◌, ◌*◌, ℕ, suc, sym, ap, subst, ◌∙◌, arith}
-use Rattle.std.specs.Prelude.{max}
+use Rattle.std.proofs.Common.{◌≡◌, ◌+◌, ◌*◌, ◌/◌, ℕ, suc, sym, ap, subst, ◌∙◌, arith}
+use Rattle.std.specs.Prelude.{max, min}
 use Rattle.fs_layout.specs.declared.inode.TheConstants.{SECTOR_POINTERS}
 use Rattle.fs_layout.specs.Bytes.{SectorMap}
 use Rattle.fs_layout.specs.Images.{number_on}
 use Rattle.fs_layout.proofs.Pointers.{number_past_next}
-use Rattle.sector_txn.proofs.TransactionRuns.{store_joined}
+use Rattle.sector_txn.proofs.TransactionRuns.{store_joined, store_same}
 use Rattle.bit_alloc.proofs.Transactions.{bitmaps_unchanged, map_unchanged, spare_unchanged}
 use Rattle.bit_alloc.proofs.Soundness.{spare_then}
 use Rattle.block_map.specs.Drops.{GivesParts, IsAmong}
 use Rattle.block_map.proofs.Numbers.{data_within, has_unchanged, listed_pointers}
-use Rattle.block_map.proofs.Givings.{given_keeps, given_unchanged, holes_given, in_data_kept, level_given, next_given, none_listed}
+use Rattle.block_map.proofs.Givings.{given_keeps, given_unchanged, holes_given, in_data_kept, level_given, next_given, none_listed, own_given}
 use Rattle.bit_alloc.proofs.Passing.{fault_on, no_fault}
 use Rattle.block_map.proofs.release.give_level.Goals as goal
 use Rattle.block_map.proofs.release.give_level.Goals.{then-sector-ne0+in_ok-give_listed-2, else-sector-ne0}
@@ -38,6 +38,22 @@ give_listed-requires-then-sector-ne0-clause-room g c =
 pub returns-in_err-give_listed-2-clause-store : goal.returns-in_err-give_listed-2-clause-store
 returns-in_err-give_listed-2-clause-store g c =
     store_joined (store_joined c.loop-j.invariant.given.puts.store c.in_ok-sector.ensures.same.store) c.in_err-give_listed-2.ensures.store
+
+pub loop-j-init : goal.loop-j-init
+loop-j-init g c =
+    let p = c.args.geometry in
+    let v = c.args.inode.now in
+    let first = c.args.first in
+    let own = c.own_count-own.result in
+    let old = g.S.Sectors.state c.args.s.now in
+    let new = g.S.Sectors.state c.give_listed.new.s in
+    let listed : GivesParts p v (IsAmong c.args.level (min first own) own) old new =
+    subst (λ (m : ℕ). GivesParts p v (IsAmong c.args.level m own) old new) c.min.ensures c.in_ok-give_listed.ensures.given in
+    record {
+      from = omega arith;
+      given = subst (λ (m : ℕ). GivesParts p v (IsAmong c.args.level first (max first (own + SECTOR_POINTERS * (m / SECTOR_POINTERS)))) old new) (sym c.saturating_sub-j.ensures)
+          (own_given listed);
+    }
 
 pub loop-j-preserved : goal.loop-j-preserved
 loop-j-preserved g c =
@@ -95,3 +111,10 @@ returns-clause-store g c = c.loop-j.invariant.given.puts.store
 
 pub returns-clause-cause : goal.returns-clause-cause
 returns-clause-cause g c = no_fault c.loop-j.invariant.given.puts.store
+
+-- ---- where a call fails, and where none does
+pub returns-in_err-give_listed-clause-store : goal.returns-in_err-give_listed-clause-store
+returns-in_err-give_listed-clause-store g c = c.in_err-give_listed.ensures.store
+
+pub returns-in_err-give_listed-clause-cause : goal.returns-in_err-give_listed-clause-cause
+returns-in_err-give_listed-clause-cause g c = fault_on (store_same {txn = g.S.Sectors.state c.args.s.now}) c.in_err-give_listed.ensures.cause c.from_residual.result c.from_residual.ensures

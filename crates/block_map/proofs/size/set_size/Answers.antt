@@ -1,6 +1,6 @@
 use Rattle.std.proofs.Common.{◌+◌, sym, arith}
 use Rattle.fs_layout.proofs.Parts.{Holds-kept, HasNoHole-kept}
-use Rattle.sector_txn.proofs.TransactionRuns.{store_joined}
+use Rattle.sector_txn.proofs.TransactionRuns.{store_joined, store_same}
 use Rattle.block_map.proofs.Rooms.{spare_but_one, spare_last}
 use Rattle.block_map.proofs.Saving.{IsEnded, saved_after}
 use Rattle.block_map.proofs.Sizing.{may_change, size_limit}
@@ -8,6 +8,7 @@ use Rattle.block_map.specs.Drops.{cut_by}
 use Rattle.block_map.specs.Sizes.{put_to}
 use Rattle.block_map.specs.Steps.{blocks_to}
 use Rattle.bit_alloc.proofs.Passing.{no_fault_of, other_fault_on}
+use Rattle.block_map.proofs.Failing.{not_past}
 use Rattle.block_map.proofs.size.set_size.Goals as goal
 
 pub resize-requires-clause-may : goal.resize-requires-clause-may
@@ -51,3 +52,19 @@ returns-in_err-write_inode-clause-cause g c =
 
 pub returns-clause-cause : goal.returns-clause-cause
 returns-clause-cause g c = no_fault_of (store_joined c.in_ok-resize.ensures.store c.in_ok-write_inode.ensures.store)
+
+-- ---- where a call fails, and where none does
+pub returns-in_err-resize-clause-untouched : goal.returns-in_err-resize-clause-untouched
+returns-in_err-resize-clause-untouched g c = not_past c.max_file_size.ensures.value c.if-size-max_file_size.false
+
+pub returns-in_err-write_inode-clause-untouched : goal.returns-in_err-write_inode-clause-untouched
+returns-in_err-write_inode-clause-untouched g c = not_past c.max_file_size.ensures.value c.if-size-max_file_size.false
+
+pub returns-in_err-resize-clause-store : goal.returns-in_err-resize-clause-store
+returns-in_err-resize-clause-store g c = c.in_err-resize.ensures.store
+
+pub returns-in_err-resize-clause-cause : goal.returns-in_err-resize-clause-cause
+returns-in_err-resize-clause-cause g c = other_fault_on (store_same {txn = g.S.Sectors.state c.args.s.now}) c.in_err-resize.ensures.cause c.from_residual.result c.from_residual.ensures.0
+
+pub returns-clause-untouched : goal.returns-clause-untouched
+returns-clause-untouched g c = not_past c.max_file_size.ensures.value c.if-size-max_file_size.false

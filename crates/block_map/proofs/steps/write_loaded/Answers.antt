@@ -4,7 +4,7 @@ use Rattle.fs_layout.specs.declared.inode.Inode.{Inode}
 use Rattle.fs_layout.specs.declared.inode.TheConstants.{DIRECT_BLOCKS}
 use Rattle.fs_layout.specs.Images.{holder, pointer}
 use Rattle.sector_txn.specs.Sectors.{lacking}
-use Rattle.sector_txn.proofs.TransactionRuns.{store_joined}
+use Rattle.sector_txn.proofs.TransactionRuns.{store_joined, store_same}
 use Rattle.bit_alloc.specs.Room.{bitmaps}
 use Rattle.block_map.specs.Steps.{WritesBlock}
 use Rattle.block_map.proofs.Numbers.{at_hand_near, listed_within, loaded_sector, number_within}
@@ -12,6 +12,8 @@ use Rattle.block_map.proofs.Rewritten.{was_full}
 use Rattle.block_map.proofs.Rooms.{lacking_unput, puts_beside}
 use Rattle.block_map.proofs.Writings.{there_at_hand, writes_block_there, direct_at_hand, writes_direct_block, entry_at_hand, pointers_are, writes_entry_block}
 use Rattle.block_map.proofs.Wrote.{block_whole, may_within, rewrite_puts, pointers_puts}
+use Rattle.block_map.proofs.Failing.{bitmap_cause}
+use Rattle.bit_alloc.proofs.Passing.{no_fault_of, other_fault_on}
 use Rattle.block_map.proofs.steps.write_loaded.Goals as goal
 
 pub rewrite-requires-clause-part : goal.rewrite-requires-clause-part
@@ -108,3 +110,31 @@ returns-else-k-lt-DIRECT_BLOCKS-clause-at_hand g c =
 
 pub returns-else-k-lt-DIRECT_BLOCKS-clause-store : goal.returns-else-k-lt-DIRECT_BLOCKS-clause-store
 returns-else-k-lt-DIRECT_BLOCKS-clause-store g c = store_joined c.in_ok-number.ensures.store c.put_pointer.ensures.put.store
+
+-- ---- where a call fails, and where none does
+pub returns-in_err-number-clause-store : goal.returns-in_err-number-clause-store
+returns-in_err-number-clause-store g c = c.in_err-number.ensures.store
+
+pub returns-in_err-number-clause-cause : goal.returns-in_err-number-clause-cause
+returns-in_err-number-clause-cause g c = bitmap_cause c.from_residual-in_err-number.result _ c.from_residual-in_err-number.ensures c.in_err-number.ensures.cause
+
+pub returns-in_err-rewrite-clause-store : goal.returns-in_err-rewrite-clause-store
+returns-in_err-rewrite-clause-store g c = c.in_err-rewrite.ensures.store
+
+pub returns-in_err-rewrite-clause-cause : goal.returns-in_err-rewrite-clause-cause
+returns-in_err-rewrite-clause-cause g c = other_fault_on (store_same {txn = g.S.Sectors.state c.args.s.now}) c.in_err-rewrite.ensures.cause c.from_residual.result c.from_residual.ensures.0
+
+pub returns-then-number-ne0-clause-cause : goal.returns-then-number-ne0-clause-cause
+returns-then-number-ne0-clause-cause g c = no_fault_of c.in_ok-rewrite.ensures.store
+
+pub returns-then-number-ne0-clause-store : goal.returns-then-number-ne0-clause-store
+returns-then-number-ne0-clause-store g c = c.in_ok-rewrite.ensures.store
+
+pub returns-then-k-lt-DIRECT_BLOCKS-clause-cause : goal.returns-then-k-lt-DIRECT_BLOCKS-clause-cause
+returns-then-k-lt-DIRECT_BLOCKS-clause-cause g c = no_fault_of c.in_ok-number.ensures.store
+
+pub returns-then-k-lt-DIRECT_BLOCKS-clause-store : goal.returns-then-k-lt-DIRECT_BLOCKS-clause-store
+returns-then-k-lt-DIRECT_BLOCKS-clause-store g c = c.in_ok-number.ensures.store
+
+pub returns-else-k-lt-DIRECT_BLOCKS-clause-cause : goal.returns-else-k-lt-DIRECT_BLOCKS-clause-cause
+returns-else-k-lt-DIRECT_BLOCKS-clause-cause g c = no_fault_of (store_joined c.in_ok-number.ensures.store c.put_pointer.ensures.put.store)

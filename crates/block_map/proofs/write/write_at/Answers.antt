@@ -1,7 +1,7 @@
 use Rattle.std.proofs.Common.{◌≡◌, ◌≤◌, ◌+◌, ◌*◌, length, sym, ap, subst, ◌∙◌, arith, Err}
 use Rattle.fs_layout.specs.declared.inode.Inode.{Inode}
 use Rattle.fs_layout.specs.declared.inode.TheConstants.{MAX_BLOCKS, MAX_FILE_SIZE}
-use Rattle.sector_txn.proofs.TransactionRuns.{store_joined}
+use Rattle.sector_txn.proofs.TransactionRuns.{store_joined, store_same}
 use Rattle.bit_alloc.proofs.Transactions.{unchanged_nothing}
 use Rattle.block_map.proofs.Numbers.{at_hand_sized}
 use Rattle.block_map.specs.declared.fault.MapFault.TheVariants.{Full}
@@ -9,12 +9,13 @@ use Rattle.block_map.specs.Steps.{MayChange, taken_by, put_by}
 use Rattle.block_map.proofs.Alterings.{may_after}
 use Rattle.block_map.proofs.Sizing.{may_change, sized, size_limit}
 use Rattle.block_map.proofs.Rooms.{spare_last}
-use Rattle.bit_alloc.proofs.Passing.{other_fault_on, no_fault_of}
+use Rattle.bit_alloc.proofs.Passing.{other_fault_on, no_fault_of, cause_on}
 use Rattle.block_map.proofs.Runs.{same_fault}
 use Rattle.block_map.proofs.Wrote.{limit_at, taken_few, taken_most, taken_same, wrote, wrote_held, wrote_whole}
 use Rattle.std.specs.Prelude.{max}
 use Rattle.block_map.specs.Contents.{AllowsSize}
 use Rattle.block_map.proofs.Saving.{IsEnded}
+use Rattle.block_map.proofs.Failing.{end_not_past}
 use Rattle.block_map.proofs.write.write_at.Goals as goal
 
 pub write_blocks-requires-clause-may : goal.write_blocks-requires-clause-may
@@ -103,3 +104,19 @@ returns-in_err-write_inode-clause-cause g c =
 
 pub returns-clause-cause : goal.returns-clause-cause
 returns-clause-cause g c = no_fault_of (store_joined c.in_ok-write_blocks.ensures.store c.in_ok-write_inode.ensures.store)
+
+-- ---- where a call fails, and where none does
+pub returns-in_err-write_blocks-clause-store : goal.returns-in_err-write_blocks-clause-store
+returns-in_err-write_blocks-clause-store g c = c.in_err-write_blocks.ensures.store
+
+pub returns-in_err-write_blocks-clause-cause : goal.returns-in_err-write_blocks-clause-cause
+returns-in_err-write_blocks-clause-cause g c = cause_on (store_same {txn = g.S.Sectors.state c.args.s.now}) c.in_err-write_blocks.ensures.cause c.from_residual.result c.from_residual.ensures
+
+pub returns-in_err-write_blocks-clause-untouched : goal.returns-in_err-write_blocks-clause-untouched
+returns-in_err-write_blocks-clause-untouched g c = end_not_past c.max_file_size.ensures.value c.if-offset-max_file_size.false (omega (arith, c.max_file_size.ensures.least, c.requires.few))
+
+pub returns-in_err-write_inode-clause-untouched : goal.returns-in_err-write_inode-clause-untouched
+returns-in_err-write_inode-clause-untouched g c = end_not_past c.max_file_size.ensures.value c.if-offset-max_file_size.false (omega (arith, c.max_file_size.ensures.least, c.requires.few))
+
+pub returns-clause-untouched : goal.returns-clause-untouched
+returns-clause-untouched g c = end_not_past c.max_file_size.ensures.value c.if-offset-max_file_size.false (omega (arith, c.max_file_size.ensures.least, c.requires.few))

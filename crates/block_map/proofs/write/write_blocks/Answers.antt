@@ -1,12 +1,13 @@
 use Rattle.std.proofs.Common.{◌≡◌, ℕ, ◌+◌, ◌-◌, ◌*◌, ◌/◌, ◌≤◌, ◌⊎◌, List, length, take, drop, sym, ap, subst, ◌∙◌, arith, inl, inr, Err}
 use Rattle.std.proofs.lemmas.Bool.{cases_lt}
-use Rattle.sector_txn.proofs.TransactionRuns.{store_joined}
+use Rattle.sector_txn.proofs.TransactionRuns.{store_joined, store_same}
 use Rattle.block_map.specs.declared.fault.MapFault.TheVariants.{Full}
+use Rattle.block_map.specs.declared.write.TheConstants.{MAX_RUN}
 use Rattle.block_map.specs.Steps.{WritesRun, HasRoomFor, pointers_of, pointers_to}
 use Rattle.block_map.proofs.Alterings.{may_after}
-use Rattle.block_map.proofs.Loops.{store_so_far, IsWritten, none_written, written_then, more_written, run_of, run_more, all_written, block_lacks, run_lacks, room_for_blocks, pointers_lack}
+use Rattle.block_map.proofs.Loops.{store_so_far, IsWritten, none_written, written_then, more_written, run_of, part_long, run_more, all_written, block_lacks, run_lacks, room_for_blocks, pointers_lack}
 use Rattle.block_map.proofs.Numbers.{loaded_unchanged}
-use Rattle.bit_alloc.proofs.Passing.{cause_on, other_fault_on}
+use Rattle.bit_alloc.proofs.Passing.{cause_on, other_fault_on, no_fault_of}
 use Rattle.block_map.proofs.Runs.{same_fault}
 use Rattle.block_map.proofs.Wrote.{may_within}
 use Rattle.block_map.proofs.write.write_blocks.Goals as goal
@@ -50,6 +51,35 @@ write_run-requires-clause-pointers g c = λ e.
     let so_far = written_then c.loop-k.invariant.written c.in_ok-load.ensures.same c.in_ok-load.ensures.inode in
     let far = (c.run_of_holes-run.ensures.listed c.if-run-gt0.true).0 in
     c.in_ok-add_pointers.ensures.added.has c.loop-k.k c.loop-k.invariant.from c.loop-k-test.true far (sym (so_far.pointers _) ∙ e)
+
+pub write_run-requires-clause-run : goal.write_run-requires-clause-run
+write_run-requires-clause-run g c =
+    let x = c.args.bytes.now in
+    let done = c.saturating_sub-done.result in
+    let run = c.run_of_holes-run.result in
+    let is = run_of x c.args.offset c.loop-k.k done run c.div_ceil-end.result c.if-run-gt0.true c.run_of_holes-run.ensures.most.0 c.whole_blocks.ensures.first c.whole_blocks.ensures.within
+    (omega (arith, c.saturating_sub-at.ensures)) (omega (arith, c.saturating_sub-done.ensures)) (omega (arith, c.div_ceil-end.ensures)) c.loop-k-test.true in
+    subst (λ (n : ℕ). n ≤ MAX_RUN) (sym is.count) c.run_of_holes-run.ensures.most.1
+
+pub write_run-requires-clause-whole : goal.write_run-requires-clause-whole
+write_run-requires-clause-whole g c =
+    let x = c.args.bytes.now in
+    let done = c.saturating_sub-done.result in
+    let run = c.run_of_holes-run.result in
+    let is = run_of x c.args.offset c.loop-k.k done run c.div_ceil-end.result c.if-run-gt0.true c.run_of_holes-run.ensures.most.0 c.whole_blocks.ensures.first c.whole_blocks.ensures.within
+    (omega (arith, c.saturating_sub-at.ensures)) (omega (arith, c.saturating_sub-done.ensures)) (omega (arith, c.div_ceil-end.ensures)) c.loop-k-test.true in
+    is.long ∙ ap (λ (n : ℕ). 512 * n) (sym is.count)
+
+pub write_run-requires-clause-inside : goal.write_run-requires-clause-inside
+write_run-requires-clause-inside g c =
+    let x = c.args.bytes.now in
+    let done = c.saturating_sub-done.result in
+    let run = c.run_of_holes-run.result in
+    let is = run_of x c.args.offset c.loop-k.k done run c.div_ceil-end.result c.if-run-gt0.true c.run_of_holes-run.ensures.most.0 c.whole_blocks.ensures.first c.whole_blocks.ensures.within
+    (omega (arith, c.saturating_sub-at.ensures)) (omega (arith, c.saturating_sub-done.ensures)) (omega (arith, c.div_ceil-end.ensures)) c.loop-k-test.true in
+    let so_far = written_then c.loop-k.invariant.written c.in_ok-load.ensures.same c.in_ok-load.ensures.inode in
+    let size = c.in_ok-add_pointers.ensures.added.size in
+    omega (arith, is.long, is.begins, is.fits, size, so_far.size, c.requires.inside.0)
 
 pub write_run-requires-clause-listed : goal.write_run-requires-clause-listed
 write_run-requires-clause-listed g c =
@@ -134,6 +164,14 @@ write_loaded-requires-clause-pointers g c = λ far e.
     let so_far = written_then c.loop-k.invariant.written c.in_ok-load.ensures.same c.in_ok-load.ensures.inode in
     c.in_ok-add_pointers.ensures.added.has c.loop-k.k c.loop-k.invariant.from c.loop-k-test.true far (sym (so_far.pointers _) ∙ e)
 
+pub write_loaded-requires-clause-fits : goal.write_loaded-requires-clause-fits
+write_loaded-requires-clause-fits g c =
+    let few : c.saturating_sub-done.result + c.min-len.result ≤ length c.args.bytes.now = omega (arith, c.min-len.ensures, c.saturating_sub-done.ensures, c.div_ceil-end.ensures, c.loop-k-test.true) in
+    let long = part_long c.args.bytes.now c.saturating_sub-done.result c.min-len.result few in
+    let so_far = written_then c.loop-k.invariant.written c.in_ok-load.ensures.same c.in_ok-load.ensures.inode in
+    let size = c.in_ok-add_pointers.ensures.added.size in
+    (omega (arith, long, c.min-len.ensures, c.saturating_sub-at.ensures, c.loop-k.invariant.from), omega (arith, long, few, c.saturating_sub-done.ensures, c.saturating_sub-at.ensures, c.loop-k.invariant.from, size, so_far.size, c.requires.inside.0))
+
 pub write_loaded-requires-clause-room : goal.write_loaded-requires-clause-room
 write_loaded-requires-clause-room g c =
     room_for_blocks c.args.offset c.args.bytes.now c.in_ok-add_pointers.ensures.added (omega (arith, c.div_ceil-end.ensures)) (written_then c.loop-k.invariant.written c.in_ok-load.ensures.same c.in_ok-load.ensures.inode) c.loop-k.invariant.from c.loop-k-test.true
@@ -197,3 +235,13 @@ returns-in_err-add_pointers-clause-full g c = λ is.
 
 pub returns-clause-store : goal.returns-clause-store
 returns-clause-store g c = store_joined c.in_ok-add_pointers.ensures.store c.loop-k.invariant.written.puts.store
+
+-- ---- where a call fails, and where none does
+pub returns-in_err-add_pointers-clause-store : goal.returns-in_err-add_pointers-clause-store
+returns-in_err-add_pointers-clause-store g c = c.in_err-add_pointers.ensures.store
+
+pub returns-in_err-add_pointers-clause-cause : goal.returns-in_err-add_pointers-clause-cause
+returns-in_err-add_pointers-clause-cause g c = cause_on (store_same {txn = g.S.Sectors.state c.args.s.now}) c.in_err-add_pointers.ensures.cause c.from_residual.result c.from_residual.ensures
+
+pub returns-clause-cause : goal.returns-clause-cause
+returns-clause-cause g c = no_fault_of (store_joined c.in_ok-add_pointers.ensures.store c.loop-k.invariant.written.puts.store)

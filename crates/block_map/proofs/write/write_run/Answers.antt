@@ -1,21 +1,55 @@
-use Rattle.std.proofs.Common.{rules, ◌≡◌, ◌≢◌, ◌/◌, ℕ, List, [], length, sym, ap, subst, ◌∙◌, arith}
+use Rattle.std.proofs.Common.{rules, ◌≡◌, ◌≢◌, ◌/◌, ◌+◌, ◌*◌, ◌≤◌, ◌<◌, get_or, ℕ, List, [], length, sym, ap, subst, ◌∙◌, arith}
 use Rattle.std.proofs.lemmas.List.{length-take-le}
-use Rattle.fs_layout.specs.declared.inode.TheConstants.{DIRECT_BLOCKS}
-use Rattle.fs_layout.specs.Bytes.{IsBytes}
+use Rattle.fs_layout.specs.declared.inode.TheConstants.{DIRECT_BLOCKS, SECTOR_POINTERS}
+use Rattle.fs_layout.specs.declared.geometry.Geometry.{Geometry}
+use Rattle.fs_layout.specs.Bytes.{IsBytes, SectorMap}
 use Rattle.fs_layout.specs.Header.{log_end}
-use Rattle.fs_layout.specs.Images.{place_in_holder}
+use Rattle.fs_layout.specs.Images.{free_sectors, place_in_holder}
 use Rattle.fs_layout.proofs.Places.{after_map, before_data}
-use Rattle.sector_txn.specs.Sectors.{PutsOnly}
+use Rattle.sector_txn.specs.Sectors.{PutsOnly, TxnState}
 use Rattle.sector_txn.proofs.TransactionRuns.{store_joined}
 use Rattle.bit_alloc.specs.declared.bitmap.Bitmap.TheVariants.{Blocks as BlockMap}
-use Rattle.bit_alloc.specs.Bitmaps.{IsNumberOf, IsSectorOf, TakesNumbers}
+use Rattle.bit_alloc.specs.Bitmaps.{HasBitmaps, IsNumberOf, IsSectorOf, TakesNumbers}
 use Rattle.bit_alloc.specs.Room.{bitmaps}
 use Rattle.block_map.specs.Steps.{FillsSectors}
 use Rattle.block_map.proofs.Numbers.{loaded_sector}
 use Rattle.block_map.proofs.Running.{loaded_data, run_written, run_puts}
 use Rattle.block_map.proofs.Writings.{shares_pointers}
 use Rattle.bit_alloc.proofs.Passing.{no_fault_of}
+use Rattle.block_map.proofs.Failing.{bitmap_cause}
+use Rattle.block_map.proofs.Rewritten.{was_full}
 use Rattle.block_map.proofs.write.write_run.Goals as goal
+
+-- numbers that were taken are those of sectors in the data
+taken_within : {p : Geometry} {numbers : List ℕ} {count : ℕ} {old : SectorMap} {txn : TxnState} → HasBitmaps p txn → TakesNumbers p BlockMap numbers 0 count old txn.sectors
+    → (i : ℕ) → i < count → (log_end txn.header ≤ get_or numbers i 0) × (get_or numbers i 0 < txn.disk.size)
+taken_within h takes i low =
+    let free = (takes.steps.each i (omega arith) low).free in
+    let after = after_map h.geometry in
+    let before = before_data h.geometry in
+    (omega (arith, free.0, after, before, h.header), omega (arith, free.1, h.disk))
+
+pub fill_sectors-requires-clause-within : goal.fill_sectors-requires-clause-within
+fill_sectors-requires-clause-within g c = taken_within c.in_ok-take_all.ensures.bitmaps c.in_ok-take_all.ensures.taken
+
+pub fill_sectors-requires-clause-long : goal.fill_sectors-requires-clause-long
+fill_sectors-requires-clause-long g c =
+    let count : ℕ = length c.args.bytes.now / 512 in
+    let so_many : length c.take_all.new.numbers ≡ count = c.in_ok-take_all.ensures.len ∙ length-take-le count _ c.requires.run in
+    c.requires.whole ∙ ap (λ (n : ℕ). 512 * n) (sym so_many)
+
+pub fill_sectors-requires-clause-fits : goal.fill_sectors-requires-clause-fits
+fill_sectors-requires-clause-fits g c =
+    let count : ℕ = length c.args.bytes.now / 512 in
+    let so_many : length c.take_all.new.numbers ≡ count = c.in_ok-take_all.ensures.len ∙ length-take-le count _ c.requires.run in
+    subst (λ (n : ℕ). place_in_holder DIRECT_BLOCKS c.args.k + n ≤ SECTOR_POINTERS) (sym so_many) c.requires.listed.1
+
+pub returns-in_err-take_all-clause-full : goal.returns-in_err-take_all-clause-full
+returns-in_err-take_all-clause-full g c = λ is.
+    let count : ℕ = length c.args.bytes.now / 512 in
+    let e = c.from_residual.ensures in
+    subst (λ (n : ℕ). free_sectors c.args.geometry (g.S.Sectors.state c.args.s.now).sectors < n) (length-take-le count _ c.requires.run)
+    (c.in_err-take_all.ensures.full (was_full c.from_residual.result c.in_err-take_all.field-0.0 e.0 e.1 is))
 
 pub put-requires-clause-part : goal.put-requires-clause-part
 put-requires-clause-part g c =
@@ -69,3 +103,10 @@ returns-clause-store g c = store_joined (store_joined c.in_ok-take_all.ensures.s
 
 pub returns-clause-cause : goal.returns-clause-cause
 returns-clause-cause g c = no_fault_of (store_joined (store_joined c.in_ok-take_all.ensures.store c.fill_sectors.ensures.puts.store) c.put.ensures.store)
+
+-- ---- where a call fails, and where none does
+pub returns-in_err-take_all-clause-store : goal.returns-in_err-take_all-clause-store
+returns-in_err-take_all-clause-store g c = c.in_err-take_all.ensures.store
+
+pub returns-in_err-take_all-clause-cause : goal.returns-in_err-take_all-clause-cause
+returns-in_err-take_all-clause-cause g c = bitmap_cause c.from_residual.result _ c.from_residual.ensures c.in_err-take_all.ensures.cause
