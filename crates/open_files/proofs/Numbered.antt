@@ -217,6 +217,18 @@ module _ (slots : List (Option Process)) (processes : ProcessTable) (v : entries
   pub unchanged_at_zero : (pid : ℕ) (f : Process → Process) → pid ≡ 0 → entries_from 1 slots ≡ with_changed processes pid f
   unchanged_at_zero pid f e = v ∙ not_changed processes pid f (zero_absent pid e)
 
-  pub is_open_here : (pid fd : ℕ) (p : Process) → pid ≢ 0 → get_or slots (pid - 1) None ≡ Some p → is_ok (open_in processes pid fd) ≡ true
-      → is_some (descriptor p fd) ≡ true
-  is_open_here pid fd p some here h = open_here processes pid fd p h (at_number pid some ∙ here)
+  -- a process with an open descriptor changes, if it is there
+  module _ (pid fd : ℕ) (is : is_ok (open_in processes pid fd) ≡ true) where
+    pub open_unchanged : (f : Process → Process) → get_or slots (pid - 1) None ≡ None → entries_from 1 slots ≡ with_changed processes pid f
+    open_unchanged f none = unchanged pid f (of_open pid fd is) none
+
+    pub open_changed : (p q : Process) (f : Process → Process) → get_or slots (pid - 1) None ≡ Some p → q ≡ f p
+        → entries_from 1 (set slots (pid - 1) (Some q)) ≡ with_changed processes pid f
+    open_changed p q f here same = changed pid p q f (of_open pid fd is) here same
+
+    pub opened_here : (p : Process) → get_or slots (pid - 1) None ≡ Some p → is_some (descriptor p fd) ≡ true
+    opened_here p here = open_here processes pid fd p is (at_number pid (of_open pid fd is) ∙ here)
+
+    pub still_table : (p q : Process) → IsTable (entries_from 1 slots) → get_or slots (pid - 1) None ≡ Some p → IsKeptProcess q
+        → IsTable (entries_from 1 (set slots (pid - 1) (Some q)))
+    still_table p q t here runs = set_is_table slots pid p q t (of_open pid fd is) here runs
