@@ -1,5 +1,5 @@
 -- What is left where the disk is altered.
---     fails, not_altered, not_altered_later        it has failed
+--     fails, not_altered, not_altered_later, not_altered_then        it has failed
 --     not_changed, not_changed_later        so it has, where the transaction would be changed
 --     altered_after        since before a read
 --     ready_later        since before reads, in which a call may be performed
@@ -43,6 +43,11 @@ module _ {A : Type 0} {p : Geometry} {more : ℕ} {alteration : A → SectorMap 
       → FailsToRead mid.disk new.disk e → AltersDisk p more alteration old new r
   not_altered_later {old} {mid} {new} r e err first then fault =
       not_altered r e err (store_joined first then) (fault.0, failed_later old.disk mid.disk new.disk first.reads.failures fault.1)
+
+  -- by a later call, which would alter it so
+  pub not_altered_then : {B : Type 0} {last : ℕ} {other : B → SectorMap → SectorMap → Type 0} {old mid new : TxnState} (r : Result A Refusal) (e : Refusal) → IsErr r × IsErrAnd r (λ z. z ≡ e)
+      → SameStore old mid → AltersDisk p last other mid new (Err e) → AltersDisk p more alteration old new r
+  not_altered_then r e err first then = not_altered_later r e err first then.store then.fault
 
   pub altered_after : {old mid new : TxnState} (r : Result A Refusal) → IsUnchanged old mid → AltersDisk p more alteration mid new r → AltersDisk p more alteration old new r
   altered_after {old} {mid} {new} (Ok x) same h = record {

@@ -2,7 +2,7 @@
 --     refused_performs, absent_performs        any; there is no such process
 --     same_err        an error is one refusal
 use Rattle.std.specs.Prelude.{◌≡◌, ℕ, None, Result, Err, IsErr, IsErrAnd}
-use Rattle.std.proofs.Common.{refl, sym, ap, subst, ◌∙◌}
+use Rattle.std.proofs.Common.{refl, sym, subst}
 use Rattle.std.specs.Ordering.{nat_cmp}
 use Rattle.fs_cred.specs.declared.errno.Errno.{Errno}
 use Rattle.fs_cred.specs.declared.errno.Errno.TheVariants.{ESRCH}
@@ -32,8 +32,7 @@ refused_performs {p} {time} {pid} {call} {old} {new} {processes} r e err and sto
 pub absent_performs : {p : Geometry} {time pid : ℕ} {call : Call} {txn : TxnState} {processes : ProcessTable} (r : Result Reply Refusal) (errno : Errno) → IsErr r
     → IsErrAnd r (λ y. y ≡ Failed errno) → (errno ≡ ESRCH) × (get nat_cmp processes pid ≡ None) → Performs p time pid call txn txn processes processes r
 absent_performs {p} {time} {pid} {call} {txn} {processes} r errno err and is = refused_performs r (Failed errno) err and store_same
-    (λ s at. subst (λ (e : Errno). IsRefused txn.disk txn.disk s pid call (Failed e)) (sym is.0)
-    (absent_refused txn.disk txn.disk s pid call (ap (λ (d : ProcessTable). get nat_cmp d pid) at.same_processes ∙ is.1)))
+    (λ s at. absent_refused at txn.disk txn.disk pid call errno is)
 
 abbrev pub refusing : (A : Type 0) → Refusal → Result A Refusal
 refusing A e = Err e

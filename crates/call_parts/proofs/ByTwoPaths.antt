@@ -19,6 +19,7 @@ use Rattle.fs_cred.specs.declared.refusal.Refusal.{Refusal}
 use Rattle.fs_cred.specs.declared.refusal.Refusal.TheVariants.{Failed}
 use Rattle.fs_cred.specs.Credentials.{Credential}
 use Rattle.fs_layout.specs.declared.geometry.Geometry.{Geometry}
+use Rattle.fs_layout.specs.Bytes.{SectorMap}
 use Rattle.fs_layout.specs.Maps.{get}
 use Rattle.sector_txn.specs.Sectors.{TxnState, SameStore, IsUnchanged}
 use Rattle.sector_txn.proofs.TransactionRuns.{store_joined}
@@ -208,11 +209,9 @@ module _ (s : State) (pid : ℕ) (q : Process) {call : Call} {old_path new_path 
 -- ---- each call that walks both so is refused
 
 -- there is no such process
-pub absent_both : (old new : DiskState) (s : State) (pid : ℕ) (old_path new_path : List ℕ) (errno : Errno) → errno ≡ ESRCH → get nat_cmp s.processes pid ≡ None
-    → RefusesBoth old new s pid old_path new_path (Failed errno)
-absent_both old new s pid old_path new_path errno is none = record {
-  each = λ call demands effect w. subst (λ (x : Errno). IsRefused old new s pid call (Failed x)) (sym is) (absent_refused old new s pid call none);
-}
+pub absent_both : {p : Geometry} {map : SectorMap} {processes : ProcessTable} {s : State} → IsStateOf p map processes s → (old new : DiskState) (pid : ℕ) (old_path new_path : List ℕ) (errno : Errno)
+    → (errno ≡ ESRCH) × (get nat_cmp processes pid ≡ None) → RefusesBoth old new s pid old_path new_path (Failed errno)
+absent_both at old new pid old_path new_path errno none = record { each = λ call demands effect w. absent_refused at old new pid call errno none }
 
 -- the checks or the walks of its paths refuse
 pub unwalked_both : (old new : DiskState) (s : State) (pid : ℕ) (q : Process) → get nat_cmp s.processes pid ≡ Some q → (old_path new_path : List ℕ) (e : Refusal)

@@ -3,6 +3,7 @@ use Rattle.std.specs.Prelude.{◌≡◌, ℕ, ◌<◌, List, [], ◌∷◌, ◌+
 use Rattle.std.proofs.Common.{refl, sym, ap, subst, ◌∙◌, inl, inr}
 use Rattle.std.specs.Ordering.{nat_cmp}
 use Rattle.sector_disk.specs.Disk.{DiskState}
+use Rattle.fs_cred.specs.declared.errno.Errno.{Errno}
 use Rattle.fs_cred.specs.declared.errno.Errno.TheVariants.{ESRCH}
 use Rattle.fs_cred.specs.declared.refusal.Refusal.{Refusal}
 use Rattle.fs_cred.specs.declared.refusal.Refusal.TheVariants.{Failed}
@@ -117,10 +118,13 @@ on_err_same (Err e) h = h
 
 -- ---- refusals
 
-pub absent_refused : (old new : DiskState) (s : State) (pid : ℕ) (call : Call) → get nat_cmp s.processes pid ≡ None
-    → IsRefused old new s pid call (Failed ESRCH)
+-- there is no such process
+pub absent_refused : {p : Geometry} {map : SectorMap} {processes : ProcessTable} {s : State} → IsStateOf p map processes s → (old new : DiskState) (pid : ℕ) (call : Call) (errno : Errno)
+    → (errno ≡ ESRCH) × (get nat_cmp processes pid ≡ None) → IsRefused old new s pid call (Failed errno)
 unfolding firm_refusal
-absent_refused old new s pid call e = why.early (rw e refl)
+absent_refused {s = s} at old new pid call errno none =
+    let e = ap (λ (d : ProcessTable). get nat_cmp d pid) at.same_processes ∙ none.1 in
+    subst (λ (x : Errno). IsRefused old new s pid call (Failed x)) (sym none.0) (why.early (rw e refl))
 
 module _ (old new : DiskState) (s : State) (pid : ℕ) (call : Call) (firm : firm_refusal s (Calls pid call) ≡ None) (asks : IsTrue (asks_in_call call)) (r : Refusal) where
   pub interrupted_refused : Interrupts old new r → IsRefused old new s pid call r

@@ -7,14 +7,14 @@
 --     new_file_held, new_directory_held, new_link_held        what was made
 use Rattle.std.specs.Prelude.{◌≡◌, ℕ, ◌+◌, ◌*◌, ◌/◌, ◌<◌, Bool, true, false, cond, List, [], Option, None, Some, unwrap_or, if◌then◌else◌, IsTrue, IsFalse}
 use Rattle.std.proofs.Common.{refl, sym, ap, arith, ◌∙◌, subst}
-use Rattle.posix_acl.specs.AccessList.{AccessList, mode_bits, with_mode_bits}
+use Rattle.posix_acl.specs.AccessList.{AccessList, IsAcl, IsSomeAcl, mode_bits, with_mode_bits}
 use Rattle.fs_cred.specs.Credentials.{Credential}
 use Rattle.fs_layout.specs.declared.inode.TheConstants.{S_ISGID, S_ISVTX}
 use Rattle.fs_layout.specs.declared.inode.Inode.{Inode}
 use Rattle.fs_layout.specs.declared.inode.Kind.TheVariants as kinds
 use Rattle.fs_layout.specs.declared.version.Version.{Version}
 use Rattle.fs_layout.specs.Bytes.{SectorMap}
-use Rattle.fs_layout.specs.AclSector.{HoldsAcl}
+use Rattle.fs_layout.specs.AclSector.{HoldsAcl, kept_acl}
 use Rattle.fs_layout.specs.Directories.{HasNames}
 use Rattle.fs_layout.specs.Images.{Holds, HasNoHole}
 use Rattle.fs_layout.proofs.KeptParts.{HoldsAcl-kept}
@@ -55,7 +55,7 @@ module _ {old new : SectorMap} {v w : Inode} where
     whole = keeps.whole h.whole;
   }
 
-  body_again : (version : Version) (b : Body) → w.kind ≡ v.kind → KeepsBytes old new v w → KeepsAcls old new v w → HoldsBody version old v b
+  pub body_again : (version : Version) (b : Body) → w.kind ≡ v.kind → KeepsBytes old new v w → KeepsAcls old new v w → HoldsBody version old v b
       → HoldsBody version new w b
   body_again version (File a bytes) kind keeps acls h = record {
     kind = kind ∙ h.kind;
@@ -140,6 +140,16 @@ record Becomes (version : Version) (new : SectorMap) (w : Inode) (b next : Body)
   mode : shown_mode next ≡ shown_mode b
   body : HoldsBody version new w next
 
+-- a directory with other names and another default ACL
+directory_becomes : {version : Version} {new : SectorMap} {w : Inode} (a : AccessList) (d : Directory) (names : List (List ℕ × ℕ)) (default : Option AccessList) → HasNames version new w names
+    → IsAcl a → IsSomeAcl default → HoldsAcl new w.acl (kept_acl a) → HoldsAcl new w.default_acl default
+    → Becomes version new w (Dir a d) (Dir a (record d { names = names; default = default }))
+directory_becomes a d names default has acl valid has_acl has_default = record {
+  type = refl;
+  mode = refl;
+  body = record { names = has; acl = acl; default = valid; has_acl = has_acl; has_default = has_default };
+}
+
 -- ---- an inode that held a node
 
 module _ {version : Version} (old new : SectorMap) (v w : Inode) (x : Placed) (h : HoldsNode version old v x) where
@@ -186,17 +196,7 @@ module _ {version : Version} (old new : SectorMap) (v w : Inode) (x : Placed) (h
     where
       go : (b : Body) → IsTrue (is_directory b) → HoldsBody version old v b → Becomes version new w b (with_default d b)
       go (File a s) is h = absurd (cc)
-      go (Dir a e) is h = record {
-        type = refl;
-        mode = refl;
-        body = record {
-          names = names_again fields.kind bytes h.names;
-          acl = h.acl;
-          default = has.valid;
-          has_acl = access_again _ access h.has_acl;
-          has_default = has.stored;
-        };
-      }
+      go (Dir a e) is h = directory_becomes a e e.names d (names_again fields.kind bytes h.names) h.acl has.valid (access_again _ access h.has_acl) has.stored
       go (Link target) is h = absurd (cc)
 
   -- other bytes, as after set_size and write_at
@@ -226,17 +226,7 @@ module _ {version : Version} (old new : SectorMap) (v w : Inode) (x : Placed) (h
     where
       go : (b : Body) → IsTrue (is_directory b) → HoldsBody version old v b → Becomes version new w b (with_names names b)
       go (File a s) is h = absurd (cc)
-      go (Dir a d) is h = record {
-        type = refl;
-        mode = refl;
-        body = record {
-          names = has;
-          acl = h.acl;
-          default = h.default;
-          has_acl = access_again _ acls.access h.has_acl;
-          has_default = default_again d.default acls.default h.has_default;
-        };
-      }
+      go (Dir a d) is h = directory_becomes a d names d.default has h.acl h.default (access_again _ acls.access h.has_acl) (default_again d.default acls.default h.has_default)
       go (Link target) is h = absurd (cc)
 
   -- of what is no directory another count of names, as after save; where it is named isn't stored

@@ -1,5 +1,5 @@
 -- New names in directories, and what they ask.
---     room_then        a directory has room once an inode was taken
+--     room_then, named_new        a directory has room once an inode was taken, and names it
 --     was_taken        the cause of a failure to take one
 --     asked_as, not_made, not_allowed, allowed        what is asked of the directory
 --     space_at, space_refused, space_met        and of a call that makes something
@@ -67,15 +67,18 @@ use Rattle.call_parts.proofs.Ownership.{others_asked, all_met}
 use Rattle.call_parts.proofs.Reachings.{asked_refused, changed}
 use Rattle.call_parts.proofs.Refuses.{Refuses, refuses_some}
 use Rattle.call_parts.proofs.Shown.{the_node_is}
-use Rattle.call_parts.specs.NewNodes.{MayBeNamed, IsMade, IsNewIn, MakesNode, TakesInode}
+use Rattle.call_parts.specs.Altering.{AltersDisk}
+use Rattle.call_parts.specs.NewNodes.{MayBeNamed, NamesInode, IsMade, IsNewIn, MakesNode, TakesInode}
+use Rattle.call_parts.proofs.Alterings.{altered}
 use Rattle.call_parts.specs.Times.{MayMoveTimes, MovesTimes}
 
 module _ {p : Geometry} {map : SectorMap} {t : Tree} {dir_ino : ℕ} {name : List ℕ} (can : CanMake p map t dir_ino name) where
-  pub room_then : (mid : SectorMap) (n : ℕ) (x : Placed) → TakesInode p n x map mid → free_sectors p map ≤ free_sectors p mid + 2 → MayBeNamed p mid dir_ino name
-  room_then mid n x takes left =
-      let held = dir_still_held can.holds can.directory n takes.free takes.change x takes.holds takes.taken in
+  pub room_then : {bytes : List ℕ} → bytes ≡ name → (mid : SectorMap) (n : ℕ) (node : Node) → TakesInode p n (record { node = node; names = 1; parent = dir_ino }) map mid
+      → free_sectors p map ≤ free_sectors p mid + 2 → MayBeNamed p mid dir_ino bytes
+  room_then is mid n node takes left =
+      let held = dir_still_held can.holds can.directory n takes.free takes.change (record { node = node; names = 1; parent = dir_ino }) takes.holds takes.taken in
       let enough = can.enough in
-      record {
+      subst (MayBeNamed p mid dir_ino) (sym is) (record {
         below = dir_below can;
         is_name = can.is_name;
         short = can.short;
@@ -84,7 +87,7 @@ module _ {p : Geometry} {map : SectorMap} {t : Tree} {dir_ino : ℕ} {name : Lis
         is_new = can.is_new;
         few = can.has_room;
         enough = omega (arith, enough, left);
-      }
+      })
 
   -- an inode isn't refused for want of room
   pub was_taken : (sectors : ℕ) → sectors ≤ 2 → (old new : DiskState) (e : TakeFault)
@@ -94,6 +97,14 @@ module _ {p : Geometry} {map : SectorMap} {t : Tree} {dir_ino : ℕ} {name : Lis
     | inr less ↦ let enough = can.enough in omega (arith, less, few, enough)
   ])
   was_taken sectors few old new taking.DiskFault full failed = failed refl
+
+-- it was taken, and then named
+pub named_new : {p : Geometry} {dir_ino : ℕ} {name bytes : List ℕ} {node : Node} {old mid new : TxnState} (n sectors : ℕ) → sectors + 4 ≤ 7 → SameStore old mid → TakesSpare p sectors old mid
+    → TakesInode p n (record { node = node; names = 1; parent = dir_ino }) old.sectors mid.sectors → bytes ≡ name
+    → AltersDisk p 4 (λ (done : Unit {0}). NamesInode p dir_ino bytes n) mid new (Ok tt) → AltersDisk p 7 (λ (k : ℕ). MakesNode p dir_ino name k node) old new (Ok n)
+named_new {p} {dir_ino} {name} {bytes} {node} {old} {mid} {new} n sectors fits store taken takes is named =
+    altered n sectors 4 fits store taken named.store named.sound named.taken
+    (record { mid = mid.sectors; takes = takes; names = subst (λ (q : List ℕ). NamesInode p dir_ino q n mid.sectors new.sectors) is named.made })
 
 -- ---- what is asked of the directory
 

@@ -79,11 +79,9 @@ inode_later {p} {mid} {new} {f} {n} {v} same i = kept (λ (m : SectorMap). IsIno
 -- ---- each call that walks so is refused
 
 -- there is no such process
-pub absent_walk : (old new : DiskState) (s : State) (pid : ℕ) (checks : Checked) (form : Form) (path : List ℕ) (errno : Errno) → errno ≡ ESRCH → get nat_cmp s.processes pid ≡ None
-    → RefusesWalk old new s pid checks form path (Failed errno)
-absent_walk old new s pid checks form path errno is none = record {
-  each = λ call demands effect w. subst (λ (x : Errno). IsRefused old new s pid call (Failed x)) (sym is) (absent_refused old new s pid call none);
-}
+pub absent_walk : {p : Geometry} {map : SectorMap} {processes : ProcessTable} {s : State} → IsStateOf p map processes s → (old new : DiskState) (pid : ℕ) (checks : Checked) (form : Form) (path : List ℕ)
+    (errno : Errno) → (errno ≡ ESRCH) × (get nat_cmp processes pid ≡ None) → RefusesWalk old new s pid checks form path (Failed errno)
+absent_walk at old new pid checks form path errno none = record { each = λ call demands effect w. absent_refused at old new pid call errno none }
 
 module _ (old new : DiskState) (s : State) (pid : ℕ) (q : Process) (there : get nat_cmp s.processes pid ≡ Some q) (checks : Checked) (form : Form) (path : List ℕ) (e : Refusal) where
   -- an argument is refused

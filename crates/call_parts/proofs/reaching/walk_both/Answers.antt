@@ -1,9 +1,6 @@
-use Rattle.std.specs.Ordering.{nat_cmp}
-use Rattle.std.proofs.Common.{Ok, Err, sym, ap, subst, ◌∙◌}
+use Rattle.std.proofs.Common.{Ok, Err, sym, subst}
 use Rattle.fs_cred.specs.declared.refusal.Refusal.TheVariants.{Failed}
 use Rattle.fs_layout.specs.Bytes.{SectorMap}
-use Rattle.fs_layout.specs.Maps.{get}
-use Rattle.fs_model.specs.Processes.{ProcessTable}
 use Rattle.fs_model.specs.Trees.{Room}
 use Rattle.path_walk.specs.Answers.{IsAnswered}
 use Rattle.call_parts.specs.TwoPaths.{walks_of}
@@ -18,11 +15,9 @@ use Rattle.call_parts.proofs.reaching.walk_both.Goals as goal
 pub returns-in_err-process-clause-refused : goal.returns-in_err-process-clause-refused
 returns-in_err-process-clause-refused g c =
     let r = c.from_residual.ensures in
-    let old = g.S.Sectors.state c.args.s.now in
-    let absent = c.in_err-process.ensures.absent in
+    let old = (g.S.Sectors.state c.args.s.now).disk in
     failed_with c.from_residual.result (Failed c.in_err-process.field-0.0) _ r.0 r.1
-    (λ s at. absent_both old.disk old.disk s c.args.caller.now.pid c.args.old.now c.args.new.now c.in_err-process.field-0.0 absent.0
-    (ap (λ (d : ProcessTable). get nat_cmp d c.args.caller.now.pid) at.same_processes ∙ absent.1))
+    (λ s at. absent_both at old old c.args.caller.now.pid c.args.old.now c.args.new.now c.in_err-process.field-0.0 c.in_err-process.ensures.absent)
 
 pub find_names-requires-clause-inodes : goal.find_names-requires-clause-inodes
 find_names-requires-clause-inodes g c = held_inodes (state_tree c.requires.ready.is_state)

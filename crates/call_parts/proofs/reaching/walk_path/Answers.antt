@@ -1,8 +1,4 @@
 use Rattle.fs_cred.specs.declared.refusal.Refusal.TheVariants.{Failed}
-use Rattle.std.specs.Ordering.{nat_cmp}
-use Rattle.std.proofs.Common.{ap, ◌∙◌}
-use Rattle.fs_layout.specs.Maps.{get}
-use Rattle.fs_model.specs.Processes.{ProcessTable}
 use Rattle.path_walk.proofs.HeldInodes.{held_inodes}
 use Rattle.path_walk.proofs.Kept.{failed_with}
 use Rattle.call_parts.proofs.ByPath.{same_err}
@@ -13,11 +9,9 @@ use Rattle.call_parts.proofs.reaching.walk_path.Goals as goal
 pub returns-in_err-process-clause-refused : goal.returns-in_err-process-clause-refused
 returns-in_err-process-clause-refused g c =
     let r = c.from_residual.ensures in
-    let old = g.S.Sectors.state c.args.s.now in
-    let absent = c.in_err-process.ensures.absent in
+    let old = (g.S.Sectors.state c.args.s.now).disk in
     failed_with c.from_residual.result (Failed c.in_err-process.field-0.0) _ r.0 r.1
-    (λ s at. absent_walk old.disk old.disk s c.args.caller.now.pid c.args.checks c.args.form c.args.path.now c.in_err-process.field-0.0 absent.0
-    (ap (λ (d : ProcessTable). get nat_cmp d c.args.caller.now.pid) at.same_processes ∙ absent.1))
+    (λ s at. absent_walk at old old c.args.caller.now.pid c.args.checks c.args.form c.args.path.now c.in_err-process.field-0.0 c.in_err-process.ensures.absent)
 
 pub returns-in_err-checks-clause-refused : goal.returns-in_err-checks-clause-refused
 returns-in_err-checks-clause-refused g c =
