@@ -41,7 +41,7 @@ use Rattle.fs_model.specs.Processes.{Process, ProcessTable, is_open}
 use Rattle.fs_model.specs.Scenes.{Scene, Effect, permission_at_dir, space_to_make, changes}
 use Rattle.fs_model.specs.States.{State, IsProcess}
 use Rattle.fs_model.specs.Steps.{HasNewNumber}
-use Rattle.fs_model.specs.StoredNodes.{Placed, HoldsNode}
+use Rattle.fs_model.specs.StoredNodes.{HoldsNode}
 use Rattle.fs_model.specs.Trees.{Room, Tree, IsBody, IsDirectoryAt, free_inodes, names_of, parent}
 use Rattle.fs_model.proofs.PlacedChanges.{make_held}
 use Rattle.fs_model.proofs.StepsAdding.{takes_new}
