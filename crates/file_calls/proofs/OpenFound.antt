@@ -1,8 +1,9 @@
 -- What open asks of what is there, and what it leaves of it.
 --     found_is        the demands on the kind of an inode, and permission
 --     old_reached, old_refused, not_opened        it is opened, or refused
+--     opening_broken, opening_broken_later        a fault, in what it does then
 use Rattle.std.specs.Prelude.{◌≡◌, ℕ, if◌then◌else◌, Bool, true, false, not, ◌&&◌, ◌||◌, List, [], ◌∷◌, ◌++◌, length, Option, None, Some, unwrap_or, is_some, IsTrue, Result, Ok, Err, IsErr, IsErrAnd}
-use Rattle.std.proofs.Common.{refl, sym, ap, subst, arith, ◌∙◌, inl}
+use Rattle.std.proofs.Common.{refl, sym, ap, subst, arith, ◌∙◌, inl, inr}
 use Rattle.fs_cred.specs.declared.errno.Errno.TheVariants.{EEXIST, EISDIR, ELOOP, ENOTDIR}
 use Rattle.fs_cred.specs.declared.refusal.Need.TheVariants.{Perm}
 use Rattle.fs_cred.specs.declared.refusal.Refusal.{Refusal}
@@ -11,13 +12,15 @@ use Rattle.fs_cred.specs.Credentials.{Credential}
 use Rattle.fs_cred.specs.Verdicts.{verdict}
 use Rattle.posix_acl.specs.declared.entry.Perms.{Perms}
 use Rattle.sector_disk.specs.Disk.{DiskState}
+use Rattle.sector_disk.proofs.Moments.{failed_later}
 use Rattle.fs_layout.specs.declared.inode.Inode.{Inode}
 use Rattle.fs_layout.specs.declared.inode.Kind.TheVariants as kinds
 use Rattle.fs_layout.specs.declared.geometry.Geometry.{Geometry}
 use Rattle.fs_layout.specs.declared.version.Version.{Version}
 use Rattle.fs_layout.specs.Bytes.{SectorMap, resized}
 use Rattle.fs_layout.specs.Images.{inode_at}
-use Rattle.sector_txn.specs.Sectors.{TxnState, SameStore}
+use Rattle.sector_txn.specs.Sectors.{TxnState, SameStore, IsUnchanged}
+use Rattle.sector_txn.proofs.TransactionRuns.{store_joined}
 use Rattle.fs_model.specs.declared.call.Flags.{Flags}
 use Rattle.fs_model.specs.declared.walk.Found.{Found}
 use Rattle.fs_model.specs.Births.{the_node, born_file}
@@ -38,13 +41,13 @@ use Rattle.fs_model.specs.Trees.{Tree}
 use Rattle.fs_model.proofs.PlacedChanges.{same_held}
 use Rattle.fs_model.proofs.StepsBodies.{length-resized, IsBytes-resized, bytes_are_bytes}
 use Rattle.fs_model.proofs.StepsDemands.{first_met, then_met, unrefused}
-use Rattle.path_walk.specs.Answers.{refused_or, IsAnswered}
+use Rattle.path_walk.specs.Answers.{refused_or, Interrupts, FailsToRead, IsAnswered}
 use Rattle.path_walk.specs.HeldTrees.{HoldsTree, IsThere, HasAccess}
 use Rattle.call_parts.specs.Paths.{scene_at}
 use Rattle.call_parts.specs.Performing.{IsStateOf}
 use Rattle.call_parts.proofs.Calling.{state_tree, found_there, met_ok, or_else-none, first_asked}
 use Rattle.path_walk.proofs.HeldNodes.{stands, held_node, held_kind, held_access}
-use Rattle.path_walk.proofs.Kept.{is_err}
+use Rattle.path_walk.proofs.Kept.{is_err, interrupts_later}
 use Rattle.call_parts.specs.declared.reaching.Caller.{Caller}
 use Rattle.call_parts.specs.ByteChanges.{ChangesBytes}
 use Rattle.file_calls.specs.declared.opening.Opening.{Opening}
@@ -250,3 +253,13 @@ pub not_opened : {caller : Caller} {q : Process} {o : Opening} (old new : TxnSta
     → Opens caller q o old new r
 not_opened {caller} {q} {o} old new r e err and store refused =
     subst (Opens caller q o old new) (sym (is_err r e err and)) (record { store = store; super = tt; each = refused })
+
+-- a fault, in what it does after reads, or after it has changed the tree
+pub opening_broken : {caller : Caller} {q : Process} {o : Opening} {old mid : TxnState} (new : TxnState) (r : Result ℕ Refusal) (e : Refusal) → IsErr r × IsErrAnd r (λ y. y ≡ e) → IsUnchanged old mid
+    → SameStore mid new → Interrupts mid.disk new.disk e → Opens caller q o old new r
+opening_broken {old = old} new r e err same store fault = not_opened old new r e err.0 err.1 (store_joined same.store store) (λ s i. inr (interrupts_later new.disk same fault))
+
+pub opening_broken_later : {caller : Caller} {q : Process} {o : Opening} {old mid : TxnState} (new : TxnState) (r : Result ℕ Refusal) (e : Refusal) → IsErr r × IsErrAnd r (λ y. y ≡ e)
+    → SameStore old mid → SameStore mid new → FailsToRead mid.disk new.disk e → Opens caller q o old new r
+opening_broken_later {old = old} {mid = mid} new r e err first next fault =
+    not_opened old new r e err.0 err.1 (store_joined first next) (λ s i. inr (inr (fault.0, failed_later old.disk mid.disk new.disk first.reads.failures fault.1)))

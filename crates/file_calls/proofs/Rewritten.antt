@@ -1,8 +1,8 @@
 -- A file whose bytes a call has changed.
 --     bytes_rewritten        the map holds the tree with the file's new bytes
---     content_changes, fails_alone        from block_map's promises
-use Rattle.std.specs.Prelude.{◌≡◌, ℕ, ◌≤◌, List, length, Some, IsTrue}
-use Rattle.std.proofs.Common.{refl, sym, subst}
+--     content_altered, fails_alone        from block_map's promises
+use Rattle.std.specs.Prelude.{◌≡◌, ℕ, ◌≤◌, List, length, Some, IsTrue, Ok}
+use Rattle.std.proofs.Common.{refl, sym, subst, arith}
 use Rattle.fs_layout.specs.declared.inode.Inode.{Inode}
 use Rattle.fs_layout.specs.declared.inode.Kind.TheVariants as kinds
 use Rattle.fs_layout.specs.declared.geometry.Geometry.{Geometry}
@@ -11,7 +11,7 @@ use Rattle.fs_layout.specs.Images.{Holds, inode_at}
 use Rattle.sector_disk.specs.Disk.{DiskState, HasFailed}
 use Rattle.fs_cred.specs.declared.errno.Errno.TheVariants.{EIO}
 use Rattle.fs_cred.specs.declared.refusal.Refusal.TheVariants.{Failed}
-use Rattle.sector_txn.specs.Sectors.{TxnState}
+use Rattle.sector_txn.specs.Sectors.{TxnState, SameStore}
 use Rattle.bit_alloc.specs.Inodes.{KeepsFields, KeepsAcls}
 use Rattle.block_map.specs.Contents.{ChangesContent}
 use Rattle.block_map.specs.declared.fault.MapFault.{MapFault}
@@ -30,6 +30,7 @@ use Rattle.call_parts.proofs.Calling.{state_tree}
 use Rattle.call_parts.proofs.HeldChanges.{bytes_held}
 use Rattle.path_walk.specs.Answers.{FailsToRead}
 use Rattle.path_walk.proofs.HeldNodes.{held_node, bytes_say}
+use Rattle.call_parts.specs.Altering.{AltersDisk}
 use Rattle.call_parts.specs.ByteChanges.{ChangesBytes}
 
 pub bytes_rewritten : {p : Geometry} {old new : SectorMap} {processes : ProcessTable} {s : State} (at : IsStateOf p old processes s) (now : ProcessTable)
@@ -49,7 +50,7 @@ bytes_rewritten {p} {old} {new} {processes} {s} at now still n node there file f
 
 -- ---- from the calls on what an inode holds
 
-pub content_changes : {p : Geometry} {n taken more : ℕ} {old new : TxnState} {v w : Inode} (f : List ℕ → List ℕ) → v ≡ inode_at p old.sectors n
+content_changes : {p : Geometry} {n taken more : ℕ} {old new : TxnState} {v w : Inode} (f : List ℕ → List ℕ) → v ≡ inode_at p old.sectors n
     → ChangesContent p n taken more old new v w → ((held : List ℕ) → Holds old.sectors v held → Holds new.sectors w (f held)) → ChangesBytes p n f old.sectors new.sectors
 content_changes {p} {n} {taken} {more} {old} {new} {v} {w} f is c held = record {
   super = c.touches.super;
@@ -60,6 +61,18 @@ content_changes {p} {n} {taken} {more} {old} {new} {v} {w} f is c held = record 
   held = λ bytes has.
       subst (λ (u : Inode). Holds new.sectors u (f bytes)) (sym c.now) (held bytes (subst (λ (u : Inode). Holds old.sectors u bytes) (sym is) has));
   used = c.used;
+}
+
+-- so many sectors were taken at most
+pub content_altered : {p : Geometry} {n taken more most : ℕ} {old new : TxnState} {v w : Inode} (f : List ℕ → List ℕ) → more ≤ most → SameStore old new → v ≡ inode_at p old.sectors n
+    → ChangesContent p n taken more old new v w → ((held : List ℕ) → Holds old.sectors v held → Holds new.sectors w (f held))
+    → AltersDisk p most (λ (done : Unit {0}). ChangesBytes p n f) old new (Ok tt)
+content_altered f few store is c held = let room = c.touches.puts.room in record {
+  store = store;
+  sound = c.sound;
+  taken = omega (arith, few, room);
+  made = content_changes f is c held;
+  fault = tt;
 }
 
 -- a rewrite fails only where the disk does

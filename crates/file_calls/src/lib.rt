@@ -7,7 +7,6 @@
 //! end of a process.
 #![tactic(auto)]
 
-mod acls;
 mod attributes;
 mod listing;
 mod making;
@@ -18,8 +17,7 @@ mod rights;
 mod show;
 mod transfer;
 
-pub use acls::{get_acl, set_acl};
-pub use attributes::{chmod, chown};
+pub use attributes::{chmod, chown, get_acl, set_acl};
 pub use listing::readdir;
 pub use opening::open;
 pub use performing::perform;

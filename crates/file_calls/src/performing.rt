@@ -3,8 +3,7 @@
 ghost use Rattle.std.specs.Prelude.{◌≡◌, MatchOption, IsTrue};
 ghost use Rattle.call_parts.specs.Performing.{MayPerform, Performs, is_on_names};
 
-use crate::acls::{get_acl, set_acl};
-use crate::attributes::{chmod, chown};
+use crate::attributes::{chmod, chown, get_acl, set_acl};
 use crate::listing::readdir;
 use crate::opening::open;
 use crate::process::{close, umask};

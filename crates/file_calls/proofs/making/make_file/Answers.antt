@@ -2,9 +2,9 @@ use Rattle.std.specs.Prelude.{None}
 use Rattle.std.proofs.Common.{refl, sym, arith, ◌∙◌}
 use Rattle.inode_table.specs.Acls.{acls_take}
 use Rattle.call_parts.specs.NewNodes.{file_made}
-use Rattle.call_parts.proofs.Alterings.{fails, altered, may_alter_then, not_altered_later}
+use Rattle.call_parts.proofs.Alterings.{fails, may_alter_then, not_altered_then}
 use Rattle.call_parts.proofs.NewFile.{dir_kept, file_fits, file_taken, takes_few}
-use Rattle.call_parts.proofs.NewNames.{room_then, was_taken}
+use Rattle.call_parts.proofs.NewNames.{room_then, named_new, was_taken}
 use Rattle.file_calls.proofs.making.make_file.Goals as goal
 
 pub new_inode-requires-clause-fits : goal.new_inode-requires-clause-fits
@@ -31,21 +31,13 @@ name_inode-requires g c =
     record {
       ready = may_alter_then 3 4 (omega arith) c.requires.ready e.touches.puts.room e.sound;
       inode = c.requires.directory ∙ sym (dir_kept can.holds can.directory c.in-Ok.ino e.free e.touches.inode);
-      room = room_then can (g.S.Sectors.state c.new_inode.new.s).sectors c.in-Ok.ino (record { node = file_made c.args.uid c.args.gid c.args.acl.now; names = 1; parent = c.args.dir_ino })
+      room = room_then can refl (g.S.Sectors.state c.new_inode.new.s).sectors c.in-Ok.ino (file_made c.args.uid c.args.gid c.args.acl.now)
           (file_taken e.free e.touches e.used c.args.dir_ino c.args.uid c.args.gid c.args.acl.now e.fields e.empty e.access e.default) (omega (arith, few, left));
     }
 
 pub returns-in_err-name_inode : goal.returns-in_err-name_inode
-returns-in_err-name_inode g c =
-    not_altered_later _ _ c.from_residual.ensures c.in-Ok.ensures.store c.in_err-name_inode.ensures.store c.in_err-name_inode.ensures.fault
+returns-in_err-name_inode g c = not_altered_then _ _ c.from_residual.ensures c.in-Ok.ensures.store c.in_err-name_inode.ensures
 
 pub returns : goal.returns
-returns g c =
-    let e = c.in-Ok.ensures in
-    let done = c.in_ok-name_inode.ensures in
-    altered c.in-Ok.ino 3 4 (omega arith) e.store e.touches.puts.room done.store done.sound done.taken
-    (record {
-      mid = (g.S.Sectors.state c.new_inode.new.s).sectors;
-      takes = file_taken e.free e.touches e.used c.args.dir_ino c.args.uid c.args.gid c.args.acl.now e.fields e.empty e.access e.default;
-      names = done.made;
-    })
+returns g c = named_new c.in-Ok.ino 3 (omega arith) c.in-Ok.ensures.store c.in-Ok.ensures.touches.puts.room
+    (let e = c.in-Ok.ensures in file_taken e.free e.touches e.used c.args.dir_ino c.args.uid c.args.gid c.args.acl.now e.fields e.empty e.access e.default) refl c.in_ok-name_inode.ensures

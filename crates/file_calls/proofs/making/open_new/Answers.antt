@@ -7,12 +7,11 @@ use Rattle.inode_table.specs.Acls.{HasDefaultAcl}
 use Rattle.fs_model.specs.Nodes.{default_in}
 use Rattle.call_parts.proofs.Calling.{state_tree}
 use Rattle.path_walk.proofs.HeldNodes.{number_below, is_there}
-use Rattle.path_walk.proofs.Kept.{kept, sound_kept, interrupts_later}
+use Rattle.path_walk.proofs.Kept.{kept, sound_kept}
 use Rattle.call_parts.specs.Makings.{CanMake}
-use Rattle.sector_disk.proofs.Moments.{failed_later}
 use Rattle.call_parts.proofs.Removed.{taken_after}
 use Rattle.file_calls.proofs.OpenedTimes.{reached, prepared_may_touch}
-use Rattle.file_calls.proofs.OpenFound.{not_opened}
+use Rattle.file_calls.proofs.OpenFound.{not_opened, opening_broken, opening_broken_later}
 use Rattle.file_calls.proofs.OpenMade.{directory_there, dir_default, none_is_there, make_refused, asked_of_it, can_make, finds_kept, asked_later, file_prepares}
 use Rattle.file_calls.proofs.making.open_new.Goals as goal
 
@@ -61,12 +60,7 @@ new_acl-requires g c =
 
 pub returns-in_err-acl : goal.returns-in_err-acl
 returns-in_err-acl g c =
-    let r = c.from_residual-in_err-acl.ensures in
-    let new = g.S.Sectors.state c.new_acl.new.s in
-    let same = c.in_ok-directory.ensures.same in
-    let failed = c.in_err-acl.ensures in
-    not_opened (g.S.Sectors.state c.args.s.now) new c.from_residual-in_err-acl.result c.in_err-acl.field-0.0 r.0 r.1 (store_joined same.store failed.same.store)
-    (λ st i. inr (interrupts_later new.disk same failed.interrupts))
+    opening_broken (g.S.Sectors.state c.new_acl.new.s) _ _ c.from_residual-in_err-acl.ensures c.in_ok-directory.ensures.same c.in_err-acl.ensures.same.store c.in_err-acl.ensures.interrupts
 
 pub make_file-requires : goal.make_file-requires
 make_file-requires g c =
@@ -94,12 +88,8 @@ make_file-requires g c =
 
 pub returns-in_err-ino : goal.returns-in_err-ino
 returns-in_err-ino g c =
-    let r = c.from_residual-in_err-ino.ensures in
-    let new = g.S.Sectors.state c.make_file.new.s in
-    let joined = unchanged_joined c.in_ok-directory.ensures.same c.in_ok-acl.ensures.same in
-    let failed = c.in_err-ino.ensures in
-    not_opened (g.S.Sectors.state c.args.s.now) new c.from_residual-in_err-ino.result c.in_err-ino.field-0.0 r.0 r.1 (store_joined joined.store failed.store)
-    (λ st i. inr (interrupts_later new.disk joined (inr failed.fault)))
+    opening_broken (g.S.Sectors.state c.make_file.new.s) _ _ c.from_residual-in_err-ino.ensures (unchanged_joined c.in_ok-directory.ensures.same c.in_ok-acl.ensures.same)
+    c.in_err-ino.ensures.store (inr c.in_err-ino.ensures.fault)
 
 pub touch-requires : goal.touch-requires
 touch-requires g c =
@@ -119,14 +109,8 @@ touch-requires g c =
 
 pub returns-in_err-touch : goal.returns-in_err-touch
 returns-in_err-touch g c =
-    let r = c.from_residual-in_err-touch.ensures in
-    let old = g.S.Sectors.state c.args.s.now in
-    let mid = g.S.Sectors.state c.make_file.new.s in
-    let new = g.S.Sectors.state c.touch.new.s in
-    let first = store_joined (unchanged_joined c.in_ok-directory.ensures.same c.in_ok-acl.ensures.same).store c.in_ok-ino.ensures.store in
-    let failed = c.in_err-touch.ensures in
-    not_opened old new c.from_residual-in_err-touch.result c.in_err-touch.field-0.0 r.0 r.1 (store_joined first failed.store)
-    (λ st i. inr (inr (failed.fault.0, failed_later old.disk mid.disk new.disk first.reads.failures failed.fault.1)))
+    opening_broken_later (g.S.Sectors.state c.touch.new.s) _ _ c.from_residual-in_err-touch.ensures
+    (store_joined (unchanged_joined c.in_ok-directory.ensures.same c.in_ok-acl.ensures.same).store c.in_ok-ino.ensures.store) c.in_err-touch.ensures.store c.in_err-touch.ensures.fault
 
 pub returns : goal.returns
 returns g c =

@@ -5,12 +5,11 @@ use Rattle.bit_alloc.proofs.Transactions.{spare_unchanged}
 use Rattle.sector_txn.proofs.TransactionRuns.{store_joined}
 use Rattle.call_parts.proofs.Calling.{state_tree}
 use Rattle.path_walk.proofs.HeldNodes.{number_below}
-use Rattle.path_walk.proofs.Kept.{kept, sound_kept, interrupts_later, same_map}
-use Rattle.sector_disk.proofs.Moments.{failed_later}
+use Rattle.path_walk.proofs.Kept.{kept, sound_kept, same_map}
 use Rattle.call_parts.proofs.Changed.{none_moved}
 use Rattle.call_parts.proofs.Removed.{taken_after}
 use Rattle.file_calls.proofs.OpenedTimes.{reached, prepared_may_touch}
-use Rattle.file_calls.proofs.OpenFound.{old_there, old_refused, old_inode, old_file, old_reached, old_emptied, not_opened}
+use Rattle.file_calls.proofs.OpenFound.{old_there, old_refused, old_inode, old_file, old_reached, old_emptied, not_opened, opening_broken, opening_broken_later}
 use Rattle.file_calls.proofs.opening.open_old.Goals as goal
 
 pub check_found-requires : goal.check_found-requires
@@ -64,13 +63,7 @@ give_size-requires g c =
 
 pub returns-in_err-give_size : goal.returns-in_err-give_size
 returns-in_err-give_size g c =
-    let r = c.from_residual-in_err-give_size.ensures in
-    let old = g.S.Sectors.state c.args.s.now in
-    let new = g.S.Sectors.state c.give_size.new.s in
-    let same = c.in_ok-inode.ensures.same in
-    let failed = c.in_err-give_size.ensures in
-    not_opened old new c.from_residual-in_err-give_size.result c.in_err-give_size.field-0.0 r.0 r.1 (store_joined same.store failed.store)
-    (λ st i. inr (interrupts_later new.disk same (inr failed.fault)))
+    opening_broken (g.S.Sectors.state c.give_size.new.s) _ _ c.from_residual-in_err-give_size.ensures c.in_ok-inode.ensures.same c.in_err-give_size.ensures.store (inr c.in_err-give_size.ensures.fault)
 
 pub touch-requires : goal.touch-requires
 touch-requires g c =
@@ -89,14 +82,8 @@ touch-requires g c =
 
 pub returns-in_err-touch : goal.returns-in_err-touch
 returns-in_err-touch g c =
-    let r = c.from_residual-in_err-touch.ensures in
-    let old = g.S.Sectors.state c.args.s.now in
-    let mid = g.S.Sectors.state c.give_size.new.s in
-    let new = g.S.Sectors.state c.touch.new.s in
-    let first = store_joined c.in_ok-inode.ensures.same.store c.in_ok-give_size.ensures.store in
-    let failed = c.in_err-touch.ensures in
-    not_opened old new c.from_residual-in_err-touch.result c.in_err-touch.field-0.0 r.0 r.1 (store_joined first failed.store)
-    (λ st i. inr (inr (failed.fault.0, failed_later old.disk mid.disk new.disk first.reads.failures failed.fault.1)))
+    opening_broken_later (g.S.Sectors.state c.touch.new.s) _ _ c.from_residual-in_err-touch.ensures (store_joined c.in_ok-inode.ensures.same.store c.in_ok-give_size.ensures.store)
+    c.in_err-touch.ensures.store c.in_err-touch.ensures.fault
 
 pub returns : goal.returns
 returns g c =

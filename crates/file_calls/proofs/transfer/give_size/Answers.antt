@@ -3,7 +3,7 @@ use Rattle.fs_layout.specs.Bytes.{resized}
 use Rattle.block_map.specs.Contents.{AllowsSize}
 use Rattle.block_map.proofs.Wrote.{put_to_few}
 use Rattle.call_parts.proofs.Alterings.{fails}
-use Rattle.file_calls.proofs.Rewritten.{content_changes, fails_alone}
+use Rattle.file_calls.proofs.Rewritten.{content_altered, fails_alone}
 use Rattle.file_calls.proofs.transfer.give_size.Goals as goal
 
 pub set_size-requires-clause-kind : goal.set_size-requires-clause-kind
@@ -15,15 +15,7 @@ set_size-requires-clause-spare g c = let few = put_to_few c.args.size in let roo
 pub returns-in-Ok : goal.returns-in-Ok
 returns-in-Ok g c =
     let e = c.in-Ok.ensures in
-    let few = put_to_few c.args.size in
-    let room = e.change.touches.puts.room in
-    record {
-      store = e.store;
-      sound = e.change.sound;
-      taken = omega (arith, few, room);
-      made = content_changes (λ held. resized held c.args.size) c.requires.inode e.change e.held;
-      fault = tt;
-    }
+    content_altered (λ held. resized held c.args.size) (put_to_few c.args.size) e.store c.requires.inode e.change e.held
 
 pub returns-in-Err : goal.returns-in-Err
 returns-in-Err g c =

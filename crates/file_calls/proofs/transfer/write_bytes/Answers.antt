@@ -3,7 +3,7 @@ use Rattle.fs_layout.specs.Bytes.{overwritten}
 use Rattle.block_map.specs.Contents.{AllowsSize}
 use Rattle.block_map.proofs.Wrote.{put_most}
 use Rattle.call_parts.proofs.Alterings.{fails}
-use Rattle.file_calls.proofs.Rewritten.{content_changes, fails_alone}
+use Rattle.file_calls.proofs.Rewritten.{content_altered, fails_alone}
 use Rattle.file_calls.proofs.Writing.{enough_free}
 use Rattle.file_calls.proofs.transfer.write_bytes.Goals as goal
 
@@ -20,15 +20,7 @@ write_at-requires-clause-spare g c =
 pub returns-in-Ok : goal.returns-in-Ok
 returns-in-Ok g c =
     let e = c.in-Ok.ensures in
-    let few = put_most c.args.offset (length c.args.bytes.now) c.requires.few in
-    let room = e.change.touches.puts.room in
-    record {
-      store = e.store;
-      sound = e.change.sound;
-      taken = omega (arith, few, room);
-      made = content_changes (λ held. overwritten held c.args.offset c.args.bytes.now) c.requires.inode e.change e.held;
-      fault = tt;
-    }
+    content_altered (λ held. overwritten held c.args.offset c.args.bytes.now) (put_most c.args.offset (length c.args.bytes.now) c.requires.few) e.store c.requires.inode e.change e.held
 
 pub returns-in-Err : goal.returns-in-Err
 returns-in-Err g c =

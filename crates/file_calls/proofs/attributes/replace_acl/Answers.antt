@@ -1,7 +1,7 @@
 use Rattle.std.proofs.Common.{sym, subst}
 use Rattle.fs_layout.specs.Inode.{FitsInode}
 use Rattle.fs_layout.proofs.Free.{inode_fits_there}
-use Rattle.file_calls.proofs.acls.replace_acl.Goals as goal
+use Rattle.file_calls.proofs.attributes.replace_acl.Goals as goal
 
 pub give_acl-requires-clause-ready : goal.give_acl-requires-clause-ready
 give_acl-requires-clause-ready g c = record { sound = c.requires.loaded.sound; spare = c.requires.spare }

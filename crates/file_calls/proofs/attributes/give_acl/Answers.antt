@@ -1,7 +1,7 @@
 use Rattle.std.proofs.Common.{rules}
 use Rattle.fs_layout.specs.Images.{inode_at}
 use Rattle.file_calls.proofs.Moded.{attributes_of}
-use Rattle.file_calls.proofs.acls.give_acl.Goals as goal
+use Rattle.file_calls.proofs.attributes.give_acl.Goals as goal
 
 pub save_acl-requires-clause-attributes : goal.save_acl-requires-clause-attributes
 save_acl-requires-clause-attributes g c =

@@ -3,7 +3,7 @@ use Rattle.fs_layout.specs.declared.inode.Kind.TheVariants as kinds
 use Rattle.fs_model.specs.Nodes.{default_in}
 use Rattle.call_parts.proofs.Readings.{not_read}
 use Rattle.file_calls.proofs.ShownAcls.{default_of_directory}
-use Rattle.file_calls.proofs.acls.shown_default.Goals as goal
+use Rattle.file_calls.proofs.attributes.shown_default.Goals as goal
 
 pub default_of-requires : goal.default_of-requires
 default_of-requires g c =

@@ -17,7 +17,7 @@ use Rattle.call_parts.proofs.Removed.{taken_after}
 use Rattle.file_calls.proofs.GivenAcls.{given_super, holder_refused, space_refused, acl_given}
 use Rattle.file_calls.proofs.Moded.{accessed_kind}
 use Rattle.file_calls.proofs.Rows.{set_acl_by_path}
-use Rattle.file_calls.proofs.acls.set_acl.Goals as goal
+use Rattle.file_calls.proofs.attributes.set_acl.Goals as goal
 
 pub returns-in_err-reached : goal.returns-in_err-reached
 returns-in_err-reached g c =

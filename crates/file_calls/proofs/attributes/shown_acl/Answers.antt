@@ -4,7 +4,7 @@ use Rattle.fs_model.specs.declared.call.AclType.{AclType}
 use Rattle.fs_model.specs.AttributeCalls.{acl_shown}
 use Rattle.call_parts.proofs.Readings.{not_read}
 use Rattle.file_calls.proofs.ShownAcls.{has_access_acl}
-use Rattle.file_calls.proofs.acls.shown_acl.Goals as goal
+use Rattle.file_calls.proofs.attributes.shown_acl.Goals as goal
 
 pub acl_of-requires : goal.acl_of-requires
 acl_of-requires g c =

@@ -10,7 +10,7 @@ use Rattle.call_parts.proofs.Calling.{both_met}
 use Rattle.call_parts.proofs.Followed.{followed_access, node_is, body_found_held}
 use Rattle.call_parts.proofs.Reachings.{reach_refused, asked_refused, told, reached_below, reached_body}
 use Rattle.file_calls.proofs.Rows.{get_acl_by_path}
-use Rattle.file_calls.proofs.acls.get_acl.Goals as goal
+use Rattle.file_calls.proofs.attributes.get_acl.Goals as goal
 
 pub returns-in_err-reached-clause-performs : goal.returns-in_err-reached-clause-performs
 returns-in_err-reached-clause-performs g c =
