@@ -2,7 +2,7 @@
 --     set_group_is, group_is        its group, where it has S_ISGID
 --     default_held        its default ACL
 --     bits_below, directory_is, link_is        what is made
---     may_then, link_placed        that, since before reads
+--     may_then        it may be made, since before reads
 use Rattle.std.specs.Prelude.{◌≡◌, ℕ, ◌+◌, ◌-◌, ◌/◌, ◌%◌, ◌<◌, ◌==◌, cond, if◌then◌else◌, Bool, true, false, List, [], Option, None}
 use Rattle.std.proofs.Common.{refl, sym, ap, subst, arith, ◌∙◌}
 use Rattle.posix_acl.specs.AccessList.{AccessList}
@@ -22,12 +22,12 @@ use Rattle.fs_model.specs.StoredNodes.{HoldsNode}
 use Rattle.fs_model.specs.Trees.{Tree, names_of, parent}
 use Rattle.path_walk.specs.HeldTrees.{HoldsTree}
 use Rattle.path_walk.proofs.HeldNodes.{held_node, default_says}
-use Rattle.path_walk.proofs.Kept.{kept, kept_back}
+use Rattle.path_walk.proofs.Kept.{kept}
 use Rattle.call_parts.specs.Makings.{CanMake, make_asked}
 use Rattle.call_parts.proofs.Makeable.{may_make}
 use Rattle.call_parts.proofs.NewFile.{set_group_says, default_is}
 use Rattle.call_parts.proofs.Shown.{the_node_is}
-use Rattle.call_parts.specs.NewNodes.{IsNewIn, MakesNode, directory_made, link_made}
+use Rattle.call_parts.specs.NewNodes.{IsNewIn, directory_made, link_made}
 
 sticky_says : (s g : Bool) → ((cond s S_ISVTX 0 + cond g S_ISGID 0) / S_ISVTX % 2 == 1) ≡ s
 sticky_says true true = refl
@@ -107,19 +107,12 @@ module _ {p : Geometry} {map : SectorMap} {t : Tree} (h : HoldsTree p map t) {di
   abbrev link_of : ℕ → ℕ → List ℕ → Node
   link_of uid gid target = record { owner = uid; group = gid; body = Link target; stamps = no_stamps }
 
-  pub link_is : (cred : Credential) (target : List ℕ) → link_made v cred target ≡ born_link cred target (the_node t dir_ino)
-  link_is cred target = ap (λ (k : ℕ). link_of cred.uid k target) (group_is cred)
+  pub link_is : (cred who : Credential) (target bytes : List ℕ) → who ≡ cred → bytes ≡ target → link_made v who bytes ≡ born_link cred target (the_node t dir_ino)
+  link_is cred who target bytes caller told =
+      ap (λ (b : List ℕ). link_made v who b) told ∙ ap (λ (k : Credential). link_made v k target) caller ∙ ap (λ (k : ℕ). link_of cred.uid k target) (group_is cred)
 
 -- ---- since before reads
 
 module _ (p : Geometry) {old mid : TxnState} {t : Tree} (h : HoldsTree p old.sectors t) (f : Found) (i : IsNewIn p t f.dir_ino f.name) (same : IsUnchanged old mid) where
   pub may_then : (cred : Credential) → first_of (make_asked p old.sectors cred t f.dir_ino (f.step - 1)) ≡ None → (u : Tree) × CanMake p mid.sectors u f.dir_ino f.name
   may_then cred met = (t, kept (λ (m : SectorMap). CanMake p m t f.dir_ino f.name) same (may_make cred (f.step - 1) met h i.directory f.name i.is_name i.short i.is_new))
-
-  pub link_placed : (v : Inode) → v ≡ inode_at p old.sectors f.dir_ino → (cred who : Credential) (target bytes : List ℕ) → who ≡ cred → bytes ≡ target → (new : SectorMap) (n : ℕ)
-      → MakesNode p f.dir_ino f.name n (link_made v who bytes) mid.sectors new → MakesNode p f.dir_ino f.name n (born_link cred target (the_node t f.dir_ino)) old.sectors new
-  link_placed v is cred who target bytes caller told new n made =
-      kept_back (λ (m : SectorMap). MakesNode p f.dir_ino f.name n (born_link cred target (the_node t f.dir_ino)) m new) same
-      (subst (λ (x : Node). MakesNode p f.dir_ino f.name n x mid.sectors new) (link_is h i v is cred target)
-      (subst (λ (k : Credential). MakesNode p f.dir_ino f.name n (link_made v k target) mid.sectors new) caller
-      (subst (λ (b : List ℕ). MakesNode p f.dir_ino f.name n (link_made v who b) mid.sectors new) told made)))

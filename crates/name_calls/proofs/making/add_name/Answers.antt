@@ -2,7 +2,7 @@ use Rattle.std.proofs.Common.{◌≢◌, ◌+◌, ℕ, List, sym, ap, arith, sub
 use Rattle.fs_layout.specs.declared.inode.Inode.{Inode}
 use Rattle.fs_layout.specs.declared.inode.Kind.TheVariants as kinds
 use Rattle.call_parts.specs.NewNodes.{MayBeNamed, NamesInode}
-use Rattle.call_parts.proofs.Alterings.{altered, not_altered, not_altered_later}
+use Rattle.call_parts.proofs.Alterings.{altered, not_altered, not_altered_then}
 use Rattle.name_calls.proofs.Linkings.{target_below, target_used, dir_same, dir_room, link_holds}
 use Rattle.name_calls.proofs.making.add_name.Goals as goal
 
@@ -41,7 +41,7 @@ name_inode-requires g c =
 
 pub returns-in_err-name_inode : goal.returns-in_err-name_inode
 returns-in_err-name_inode g c =
-    not_altered_later _ _ c.from_residual-in_err-name_inode.ensures c.in_ok-set_names.ensures.store c.in_err-name_inode.ensures.store c.in_err-name_inode.ensures.fault
+    not_altered_then _ _ c.from_residual-in_err-name_inode.ensures c.in_ok-set_names.ensures.store c.in_err-name_inode.ensures
 
 pub returns : goal.returns
 returns g c =

@@ -8,15 +8,13 @@ use Rattle.fs_layout.specs.Images.{inode_at}
 use Rattle.sector_txn.proofs.TransactionRuns.{store_joined}
 use Rattle.bit_alloc.proofs.Transactions.{spare_unchanged, unchanged_joined}
 use Rattle.inode_table.specs.Acls.{HasDefaultAcl}
-use Rattle.fs_model.specs.Births.{the_node, born_acl, born_directory}
-use Rattle.fs_model.specs.Nodes.{Node, default_in}
+use Rattle.fs_model.specs.Births.{born_acl}
+use Rattle.fs_model.specs.Nodes.{default_in}
 use Rattle.path_walk.proofs.HeldNodes.{number_below, is_there}
-use Rattle.path_walk.proofs.Kept.{kept, kept_back, sound_kept, interrupts_later}
-use Rattle.call_parts.specs.NewNodes.{MakesNode, directory_made}
-use Rattle.name_calls.proofs.Makings.{makes_broken, makes_refused}
+use Rattle.path_walk.proofs.Kept.{kept, sound_kept, interrupts_later}
+use Rattle.name_calls.proofs.Makings.{makes_broken, makes_refused, makes_node}
 use Rattle.name_calls.proofs.Inherited.{bits_below, default_held, directory_is, may_then}
 use Rattle.call_parts.proofs.NewNames.{allowed}
-use Rattle.call_parts.proofs.Removed.{taken_after}
 use Rattle.name_calls.proofs.making.make_directory.Goals as goal
 
 pub check_make-requires : goal.check_make-requires
@@ -75,33 +73,22 @@ returns-in_err-ino g c =
 
 pub returns : goal.returns
 returns g c =
+    makes_node c.in_ok-ino.ino (unchanged_joined c.in_ok-directory.ensures.same c.in_ok-inherits.ensures.same) c.in_ok-ino.ensures
+    (λ t h i.
     let p = c.args.caller.now.geometry in
     let old = g.S.Sectors.state c.args.s.now in
-    let mid = g.S.Sectors.state c.default_of.new.s in
-    let new = g.S.Sectors.state c.place_directory.new.s in
-    let joined = unchanged_joined c.in_ok-directory.ensures.same c.in_ok-inherits.ensures.same in
-    let done = c.in_ok-ino.ensures in
-    record {
-      store = store_joined joined.store done.store;
-      each = λ t h i.
-          let v = c.in_ok-directory.directory in
-          let f = c.args.walked.now.found in
-          let q = c.args.walked.now.process.now in
-          let mode = c.args.mode in
-          let bits = c.special_bits-bits.result in
-          let gid = c.new_group-gid.result in
-          let a = c.in_ok-access.access in
-          let met = allowed p old.sectors t f c.cred-cred.ensures c.saturating_sub-step.ensures (inode_at p old.sectors f.dir_ino) v (c.in_ok-directory.ensures.each t h i.directory) in
-          let d = option_copied c.as_ref-default.result in
-          let has = kept (λ (m : SectorMap). HasDefaultAcl m v (default_in i.directory.node.body)) c.in_ok-directory.ensures.same (default_held h i v met.1) in
-          let given : d ≡ default_in i.directory.node.body = c.as_ref-default.ensures.value ∙ c.in_ok-inherits.ensures.found (default_in i.directory.node.body) has in
-          let node : directory_made c.uid-uid.result gid bits a d ≡ born_directory q.cred q.umask mode (the_node t f.dir_ino) =
-          directory_is h i v met.1 q.cred q.umask mode c.uid-uid.result gid bits a d (c.uid-uid.ensures ∙ ap (λ (k : Credential). k.uid) c.cred-cred.ensures)
+    let v = c.in_ok-directory.directory in
+    let f = c.args.walked.now.found in
+    let q = c.args.walked.now.process.now in
+    let mode = c.args.mode in
+    let a = c.in_ok-access.access in
+    let met = allowed p old.sectors t f c.cred-cred.ensures c.saturating_sub-step.ensures (inode_at p old.sectors f.dir_ino) v (c.in_ok-directory.ensures.each t h i.directory) in
+    let d = option_copied c.as_ref-default.result in
+    let has = kept (λ (m : SectorMap). HasDefaultAcl m v (default_in i.directory.node.body)) c.in_ok-directory.ensures.same (default_held h i v met.1) in
+    let given : d ≡ default_in i.directory.node.body = c.as_ref-default.ensures.value ∙ c.in_ok-inherits.ensures.found (default_in i.directory.node.body) has in (
+      met.0,
+      directory_is h i v met.1 q.cred q.umask mode c.uid-uid.result c.new_group-gid.result c.special_bits-bits.result a d
+          (c.uid-uid.ensures ∙ ap (λ (k : Credential). k.uid) c.cred-cred.ensures)
           (c.new_group-gid.ensures ∙ ap (λ (k : Credential). if v.mode / S_ISGID % 2 == 1 then v.gid else k.gid) c.cred-cred.ensures) c.special_bits-bits.ensures
-          given (c.in_ok-access.ensures.born ∙ ap (born_acl d mode) c.umask.ensures) in (
-            met.0,
-            kept_back (λ (m : SectorMap). MakesNode p f.dir_ino f.name c.in_ok-ino.ino (born_directory q.cred q.umask mode (the_node t f.dir_ino)) m new.sectors) joined
-                (subst (λ (x : Node). MakesNode p f.dir_ino f.name c.in_ok-ino.ino x mid.sectors new.sectors) node done.made),
-          );
-      taken = taken_after p 7 new joined done.taken;
-    }
+          given (c.in_ok-access.ensures.born ∙ ap (born_acl d mode) c.umask.ensures),
+    ))

@@ -5,10 +5,9 @@ use Rattle.sector_txn.proofs.TransactionRuns.{store_joined}
 use Rattle.bit_alloc.proofs.Transactions.{spare_unchanged}
 use Rattle.fs_model.specs.Trees.{IsTarget}
 use Rattle.path_walk.proofs.Kept.{kept, sound_kept, interrupts_later}
-use Rattle.name_calls.proofs.Makings.{makes_broken, makes_refused}
-use Rattle.name_calls.proofs.Inherited.{may_then, link_placed}
+use Rattle.name_calls.proofs.Makings.{makes_broken, makes_refused, makes_node}
+use Rattle.name_calls.proofs.Inherited.{link_is, may_then}
 use Rattle.call_parts.proofs.NewNames.{allowed}
-use Rattle.call_parts.proofs.Removed.{taken_after}
 use Rattle.name_calls.proofs.making.make_link.Goals as goal
 
 pub check_make-requires : goal.check_make-requires
@@ -40,19 +39,12 @@ returns-in_err-ino g c =
     (interrupts_later (g.S.Sectors.state c.place_link.new.s).disk same (inr c.in_err-ino.ensures.fault))
 
 pub returns : goal.returns
-returns g c =
+returns g c = makes_node c.in_ok-ino.ino c.in_ok-directory.ensures.same c.in_ok-ino.ensures
+    (λ t h i.
     let p = c.args.caller.now.geometry in
-    let new = g.S.Sectors.state c.place_link.new.s in
-    let same = c.in_ok-directory.ensures.same in
-    let done = c.in_ok-ino.ensures in
-    record {
-      store = store_joined same.store done.store;
-      each = λ t h i.
-          let f = c.args.walked.now.found in
-          let met = allowed p (g.S.Sectors.state c.args.s.now).sectors t f c.cred-cred.ensures c.saturating_sub-step.ensures _ _ (c.in_ok-directory.ensures.each t h i.directory) in (
-            met.0,
-            link_placed p h f i same c.in_ok-directory.directory met.1 c.args.walked.now.process.now.cred c.cred-cred.result.now c.args.target.now c.bytes-bytes.result.now
-                c.cred-cred.ensures c.bytes-bytes.ensures.all new.sectors c.in_ok-ino.ino done.made,
-          );
-      taken = taken_after p 7 new same done.taken;
-    }
+    let f = c.args.walked.now.found in
+    let met = allowed p (g.S.Sectors.state c.args.s.now).sectors t f c.cred-cred.ensures c.saturating_sub-step.ensures _ _ (c.in_ok-directory.ensures.each t h i.directory) in (
+      met.0,
+      link_is h i c.in_ok-directory.directory met.1 c.args.walked.now.process.now.cred c.cred-cred.result.now c.args.target.now c.bytes-bytes.result.now
+          c.cred-cred.ensures c.bytes-bytes.ensures.all,
+    ))

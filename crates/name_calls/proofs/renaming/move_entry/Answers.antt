@@ -1,6 +1,6 @@
 use Rattle.std.proofs.Common.{arith}
 use Rattle.name_calls.specs.Moving.{across}
-use Rattle.call_parts.proofs.Alterings.{altered, not_altered, not_altered_later}
+use Rattle.call_parts.proofs.Alterings.{altered, not_altered, not_altered_then}
 use Rattle.name_calls.proofs.Movings.{is_nothing, is_something, may_remove_first, may_lead}
 use Rattle.name_calls.proofs.renaming.move_entry.Goals.{else-first-second-via-then-first-second+else-is_none, else-first-second-via-else-first-second}
 use Rattle.name_calls.proofs.renaming.move_entry.Goals as goal
@@ -46,7 +46,7 @@ give_name-requires g c =
 
 pub returns-in_err-give_name : goal.returns-in_err-give_name
 returns-in_err-give_name g c =
-    not_altered_later _ _ c.from_residual-in_err-give_name.ensures c.in_ok-remove_found.ensures.store c.in_err-give_name.ensures.store c.in_err-give_name.ensures.fault
+    not_altered_then _ _ c.from_residual-in_err-give_name.ensures c.in_ok-remove_found.ensures.store c.in_err-give_name.ensures
 
 pub returns : goal.returns
 returns g c =

@@ -3,7 +3,7 @@ use Rattle.fs_layout.specs.declared.inode.Inode.{Inode}
 use Rattle.fs_layout.specs.declared.inode.Kind.TheVariants as kinds
 use Rattle.sector_txn.proofs.TransactionRuns.{store_joined}
 use Rattle.fs_model.specs.Processes.{is_open}
-use Rattle.call_parts.proofs.Alterings.{not_altered, not_altered_later}
+use Rattle.call_parts.proofs.Alterings.{not_altered, not_altered_later, not_altered_then}
 use Rattle.name_calls.proofs.Droppings.{lost_sound, lost_touches}
 use Rattle.name_calls.proofs.Movings.{follow_super, there_is, nothing_there, moved_below, moved_used, entry_super, moved_same, moved_none, replaced_number, replaced_same, replaced_used, replaced_named, replaced_holds}
 use Rattle.name_calls.proofs.renaming.move_name.Goals as goal
@@ -30,7 +30,7 @@ returns-in_err-move_entry g c = not_altered _ _ c.from_residual.ensures c.in_err
 
 pub returns-in_err-follow : goal.returns-in_err-follow
 returns-in_err-follow g c =
-    not_altered_later _ _ c.from_residual-in_err-follow.ensures c.in_ok-move_entry.ensures.store c.in_err-follow.ensures.store c.in_err-follow.ensures.fault
+    not_altered_then _ _ c.from_residual-in_err-follow.ensures c.in_ok-move_entry.ensures.store c.in_err-follow.ensures
 
 pub lose_name-requires : goal.lose_name-requires
 lose_name-requires g c =
