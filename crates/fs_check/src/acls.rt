@@ -1,10 +1,9 @@
 //! The sectors of ACLs.
 
-ghost use Rattle.std.specs.Prelude.{◌≡◌, ◌<◌, ◌≢◌, OnOk, IfOk, MatchOption, IsTrue, ◌↔◌, map};
+ghost use Rattle.std.specs.Prelude.{◌≡◌, ◌≢◌, ◌<◌, ◌≤◌, length, map, OnOk, IfOk, MatchOption, IsTrue, IsFalse, ◌↔◌, vec_capacity};
 ghost use Rattle.posix_acl.specs.Entries.{numbers_of};
-ghost use Rattle.fs_layout.specs.Bytes.{SectorMap};
-ghost use Rattle.fs_model.specs.Rules.{ObeysEach, ObeysBefore, Acls, HasAcls, HasSomeAccessAcl, HasSomeDefaultAcl};
-ghost use Rattle.fs_check.specs.StoredAcls.{AreNoEntries, IsListed, IsAclIn, HasListsInPlace};
+ghost use Rattle.fs_model.specs.Rules.{ObeysEach, ObeysBefore, Acls, HasAcls};
+ghost use Rattle.fs_check.specs.StoredAcls.{AreNoEntries, IsListed, IsAclIn, GoesWith, HasGoodAcl, HasListsInPlace};
 ghost use Rattle.fs_check.specs.Checks.{meaning, BeginsWith, AreInodes, Passed, IsNone, IsLeast};
 
 use crate::faults::{CheckFault, Checked, Finding};
@@ -17,16 +16,29 @@ use std::alloc::{AllocError, Global};
 
 const ACLS: u8 = 9;
 
+// Fills a list with the entries that have these numbers. Not where one has no entry.
+fn fill_entries(numbers: &[EntryNumbers], entries: &mut Vec<Entry>) -> bool
+    requires none { length entries.old.items ≡ 0 }
+    requires room { length numbers.now ≤ vec_capacity entries.old }
+    ensures all { IsTrue result → map numbers_of entries.new.items ≡ numbers.now }
+    ensures none { IsFalse result → AreNoEntries numbers.now }
+{
+    for one in numbers {
+        let Some(entry) = Entry::from_numbers(*one) else {
+            return false;
+        };
+        entries.push_reserved(entry);
+    }
+    true
+}
+
 // The entries with these numbers, where there are such.
 fn entries_with(alloc: Global, numbers: &[EntryNumbers]) -> Result<Option<Vec<Entry>>, AllocError>
     ensures { IfOk result (λ o. MatchOption o (AreNoEntries numbers.now) (λ v. map numbers_of v.items ≡ numbers.now)) }
 {
     let mut entries = Vec::with_capacity(alloc, numbers.len())?;
-    for one in numbers {
-        let Some(entry) = Entry::from_numbers(*one) else {
-            return Ok(None);
-        };
-        entries.push_reserved(entry);
+    if !fill_entries(numbers, &mut entries) {
+        return Ok(None);
     }
     Ok(Some(entries))
 }
@@ -46,14 +58,16 @@ fn have_numbers(entries: &[Entry], numbers: &[EntryNumbers]) -> bool
     true
 }
 
-// The ACL with these entries, where they are one's, in canonical order.
-fn acl_with(alloc: Global, numbers: &[EntryNumbers]) -> Result<Option<Acl>, AllocError>
+// The ACL of entries that have these numbers, where they are one's, in canonical order.
+fn acl_of(
+    alloc: Global,
+    entries: &[Entry],
+    numbers: &[EntryNumbers],
+) -> Result<Option<Acl>, AllocError>
+    requires { map numbers_of entries.now ≡ numbers.now }
     ensures { IfOk result (IsListed numbers.now) }
 {
-    let Some(entries) = entries_with(alloc, numbers)? else {
-        return Ok(None);
-    };
-    let acl = match Acl::from_entries(alloc, &entries) {
+    let acl = match Acl::from_entries(alloc, entries) {
         Ok(acl) => acl,
         Err(fault) => match fault {
             AclFault::OutOfMemory => return Err(AllocError),
@@ -66,6 +80,16 @@ fn acl_with(alloc: Global, numbers: &[EntryNumbers]) -> Result<Option<Acl>, Allo
     Ok(Some(acl))
 }
 
+// The ACL with these numbers, where there is one that has them in canonical order.
+fn acl_with(alloc: Global, numbers: &[EntryNumbers]) -> Result<Option<Acl>, AllocError>
+    ensures { IfOk result (IsListed numbers.now) }
+{
+    match entries_with(alloc, numbers)? {
+        Some(entries) => acl_of(alloc, &entries, numbers),
+        None => Ok(None),
+    }
+}
+
 // The ACL that a sector has, where it has a valid one.
 fn acl_in(alloc: Global, content: &[u8; 512]) -> Result<Option<Acl>, AllocError>
     ensures { IfOk result (IsAclIn content.now) }
@@ -76,21 +100,24 @@ fn acl_in(alloc: Global, content: &[u8; 512]) -> Result<Option<Acl>, AllocError>
     acl_with(alloc, sector.entries())
 }
 
-// Whether the content of the sector for the inode's access ACL is one that goes with the mode.
-fn is_access_acl(alloc: Global, inode: &Inode, content: &[u8; 512]) -> Result<bool, AllocError>
-    ensures { IfOk result (λ b. (m : SectorMap) → m inode.now.acl ≡ content.now → IsTrue b ↔ HasSomeAccessAcl m inode.now) }
+// Whether an ACL is one for these permission bits: an access ACL has them, and more than the base entries. For a default ACL there are none.
+fn goes_with(acl: &Acl, bits: Option<u16>) -> bool
+    ensures { IsTrue result ↔ GoesWith bits acl.now }
 {
-    match acl_in(alloc, content)? {
-        Some(acl) => Ok(acl.is_extended() && acl.mode_bits() == inode.mode % 512),
-        None => Ok(false),
+    match bits {
+        Some(bits) => acl.is_extended() && acl.mode_bits() == bits,
+        None => true,
     }
 }
 
-// Whether the content of the sector for the inode's default ACL is one.
-fn is_default_acl(alloc: Global, inode: &Inode, content: &[u8; 512]) -> Result<bool, AllocError>
-    ensures { IfOk result (λ b. (m : SectorMap) → m inode.now.default_acl ≡ content.now → IsTrue b ↔ HasSomeDefaultAcl m inode.now) }
+// Whether a sector with this content has an ACL for these permission bits.
+fn is_good_acl(alloc: Global, content: &[u8; 512], bits: Option<u16>) -> Result<bool, AllocError>
+    ensures { IfOk result (λ b. IsTrue b ↔ HasGoodAcl bits content.now) }
 {
-    Ok(acl_in(alloc, content)?.is_some())
+    match acl_in(alloc, content)? {
+        Some(acl) => Ok(goes_with(&acl, bits)),
+        None => Ok(false),
+    }
 }
 
 // Whether the inode has no ACL that its kind mustn't have.
@@ -103,34 +130,19 @@ fn is_in_place(inode: &Inode) -> bool
     inode.kind == Kind::Directory || inode.default_acl == 0
 }
 
-// Whether the inode's access ACL is good, if it has one.
-fn has_access_acl<D: Disk>(disk: &mut D, opened: &Opened, inode: &Inode) -> Checked<bool>
+// Whether a sector has an ACL for these permission bits, if there is such a sector.
+fn has_good_acl<D: Disk>(disk: &mut D, opened: &Opened, s: u32, bits: Option<u16>) -> Checked<bool>
     requires opened { BeginsWith (D.state disk.old) opened.now.geometry opened.now.area opened.now.commit }
-    requires on_disk { inode.now.acl < (D.state disk.old).size }
-    ensures test { IfOk result (λ b. IsTrue b ↔ (inode.now.acl ≢ 0 → HasSomeAccessAcl (meaning (D.state disk.old)) inode.now)) }
+    requires on_disk { s < (D.state disk.old).size }
+    ensures test { IfOk result (λ b. IsTrue b ↔ (s ≢ 0 → HasGoodAcl bits (meaning (D.state disk.old) s))) }
     ensures passed { Passed IsNone (D.state disk.old) (D.state disk.new) result }
 {
-    if inode.acl == 0 {
+    if s == 0 {
         return Ok(true);
     }
     let mut content = [0; 512];
-    read_recovered(disk, opened, inode.acl, &mut content)?;
-    Ok(is_access_acl(opened.alloc, inode, &content)?)
-}
-
-// Whether the inode's default ACL is good, if it has one.
-fn has_default_acl<D: Disk>(disk: &mut D, opened: &Opened, inode: &Inode) -> Checked<bool>
-    requires opened { BeginsWith (D.state disk.old) opened.now.geometry opened.now.area opened.now.commit }
-    requires on_disk { inode.now.default_acl < (D.state disk.old).size }
-    ensures test { IfOk result (λ b. IsTrue b ↔ (inode.now.default_acl ≢ 0 → HasSomeDefaultAcl (meaning (D.state disk.old)) inode.now)) }
-    ensures passed { Passed IsNone (D.state disk.old) (D.state disk.new) result }
-{
-    if inode.default_acl == 0 {
-        return Ok(true);
-    }
-    let mut content = [0; 512];
-    read_recovered(disk, opened, inode.default_acl, &mut content)?;
-    Ok(is_default_acl(opened.alloc, inode, &content)?)
+    read_recovered(disk, opened, s, &mut content)?;
+    Ok(is_good_acl(opened.alloc, &content, bits)?)
 }
 
 // Whether the inode's ACLs are good, and none is where it mustn't be.
@@ -144,10 +156,10 @@ fn has_good_acls<D: Disk>(disk: &mut D, opened: &Opened, inode: &Inode) -> Check
     if !is_in_place(inode) {
         return Ok(false);
     }
-    if !has_access_acl(disk, opened, inode)? {
+    if !has_good_acl(disk, opened, inode.acl, Some(inode.mode % 512))? {
         return Ok(false);
     }
-    has_default_acl(disk, opened, inode)
+    has_good_acl(disk, opened, inode.default_acl, None)
 }
 
 /// Each sector of an ACL has a valid one, with the mode's bits, and none is where it mustn't be.
