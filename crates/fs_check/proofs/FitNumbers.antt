@@ -10,7 +10,7 @@ use Rattle.fs_layout.proofs.Pointers.{number_past_above, no_level}
 use Rattle.fs_model.specs.Nodes.{numbers_for}
 use Rattle.fs_check.specs.LastBlocks.{AreNone, IsCut, FitsSize}
 use Rattle.fs_check.specs.Owning.{AreListed}
-use Rattle.fs_check.proofs.DataNumbers.{next_level, none_found, are_listed}
+use Rattle.fs_check.proofs.DataNumbers.{next_level, none_found, are_listed, listed_own}
 use Rattle.fs_check.proofs.Tests.{refuses}
 
 -- ---- how many numbers a size needs
@@ -84,6 +84,11 @@ module _ (m : SectorMap) (v : Inode) where
 
   pub ends_cut : IsTrimmed m v → (level : ℕ) → IsCut m v level
   ends_cut trim level i ge lt = trim level i (past_needed level v.size i ge)
+
+  -- what a test says of the numbers that stand in the inode: no sector of pointers has them
+  pub own_none : (level first own : ℕ) (content : List ℕ) (b : Bool) → own ≡ own_count level
+      → ((q : SectorMap) → AreListed q v content level first own → IsTrue b ↔ AreNone q v level first own) → IsTrue b ↔ AreNone m v level first own
+  own_none level first own content b is test = test m (listed_own m v level first own content (omega (arith, is)))
 
   -- a level is cut where the inode has no number too many, and the last sector of pointers that the size needs has none
   module _ (level first own above : ℕ) (at : first ≡ numbers_for level v.size) (few : own ≡ own_count level) (next : above ≡ numbers_for (level + 1) v.size) where

@@ -1,33 +1,25 @@
 use Rattle.std.proofs.Common.{◌≡◌, ◌+◌, ◌-◌, [], get_or, sym, ap, arith, refl, ◌∙◌}
 use Rattle.fs_model.specs.Nodes.{numbers_for}
 use Rattle.fs_check.specs.Checks.{meaning}
-use Rattle.fs_check.proofs.DataNumbers.{above_owned, level_owned, listed_own}
-use Rattle.fs_check.proofs.FitNumbers.{needed_level, to_cut, of_cut, own_not_cut, cut_without, cut_at_hole, last_lists}
+use Rattle.fs_check.proofs.DataNumbers.{above_owned, level_owned}
+use Rattle.fs_check.proofs.FitNumbers.{needed_level, own_none, to_cut, of_cut, own_not_cut, cut_without, cut_at_hole, last_lists}
 use Rattle.fs_check.proofs.Carrying.{same_error}
 use Rattle.sector_disk.proofs.Moments.{reads_nothing}
 use Rattle.fs_check.proofs.contents.is_cut.Goals as goal
 
 pub returns-then-not-are_none-clause-test : goal.returns-then-not-are_none-clause-test
 returns-then-not-are_none-clause-test g c =
-    let m = meaning (g.D.Disk.state c.args.disk.now) in
-    let v = c.args.inode.now in
-    let level = c.args.level in
-    let first = c.needed_numbers-first.result in
-    let own = c.own_count-own.result in
-    own_not_cut m v level first own (numbers_for (level + 1) v.size) c.needed_numbers-first.ensures.is c.own_count-own.ensures refl c.are_none.result
-    (c.are_none.ensures m (listed_own m v level first own (get_or c.args.pointers.now.contents 0 []) (omega (arith, c.own_count-own.ensures)))) c.if-not-are_none.true
+    let above = numbers_for (c.args.level + 1) c.args.inode.now.size in
+    own_not_cut _ _ c.args.level _ _ above c.needed_numbers-first.ensures.is c.own_count-own.ensures refl c.are_none.result
+    (own_none _ _ c.args.level _ _ _ c.are_none.result c.own_count-own.ensures c.are_none.ensures) c.if-not-are_none.true
 
 pub returns-then-above-eq0-clause-test : goal.returns-then-above-eq0-clause-test
 returns-then-above-eq0-clause-test g c =
     let m = meaning (g.D.Disk.state c.args.disk.now) in
     let v = c.args.inode.now in
-    let level = c.args.level in
-    let first = c.needed_numbers-first.result in
-    let own = c.own_count-own.result in
-    let none = (c.are_none.ensures m (listed_own m v level first own (get_or c.args.pointers.now.contents 0 []) (omega (arith, c.own_count-own.ensures)))).0
-    c.if-not-are_none.false in
-    let cut = cut_without m v level first own c.needed_numbers-above.result c.needed_numbers-first.ensures.is c.own_count-own.ensures c.needed_numbers-above.ensures.is none
-    c.if-above-eq0.true in
+    let none = (own_none m v c.args.level _ _ _ c.are_none.result c.own_count-own.ensures c.are_none.ensures).0 c.if-not-are_none.false in
+    let cut = cut_without m v c.args.level c.needed_numbers-first.result c.own_count-own.result c.needed_numbers-above.result c.needed_numbers-first.ensures.is
+    c.own_count-own.ensures c.needed_numbers-above.ensures.is none c.if-above-eq0.true in
     ((λ t. cut), (λ all. refl))
 
 pub find-requires-clause-highest : goal.find-requires-clause-highest
