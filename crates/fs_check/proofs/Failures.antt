@@ -1,7 +1,6 @@
 -- Rules that are tried on tables, one after the other.
-use Rattle.std.specs.Prelude.{◌≡◌, ℕ, ◌+◌, List, Option, Some, None, Result, Ok, Err, IfSome, IfNone, MatchOption, MatchResult}
+use Rattle.std.specs.Prelude.{◌≡◌, ℕ, ◌+◌, List, Option, Some, None, Result, Ok, Err, MatchOption, MatchResult}
 use Rattle.std.proofs.Common.{sym, ap, ◌∙◌, subst}
-use Rattle.fs_layout.specs.declared.inode.Inode.{Inode}
 use Rattle.fs_layout.specs.declared.geometry.Geometry.{Geometry}
 use Rattle.fs_layout.specs.Bytes.{SectorMap}
 use Rattle.fs_model.specs.Rules.{ImageRule, rule_number, ObeysEach, ObeysBefore, IsLeastFailure}
@@ -10,17 +9,8 @@ use Rattle.fs_check.specs.declared.faults.CheckFault.{CheckFault}
 use Rattle.fs_check.specs.declared.faults.CheckFault.TheVariants.{Found}
 use Rattle.sector_disk.specs.Disk.{DiskState, OnlyReads}
 use Rattle.sector_disk.proofs.Moments.{reads_nothing}
-use Rattle.fs_check.specs.Checks.{meaning, BeginsWith, AreInodes, IsNameTable, IsReason, Passed, IsLeast, IsFirst, IsFailureOf}
+use Rattle.fs_check.specs.Checks.{meaning, BeginsWith, IsReason, Passed, IsLeast, IsFirst, IsFailureOf}
 use Rattle.fs_check.proofs.Carrying.{next_before, rule_error}
-
--- what a rule's test says of one image
-pub of_image : (p : Geometry) (r : ImageRule) (k : ℕ) (inodes : List Inode) (counts directories : List ℕ) (first : Option ℕ)
-    → IfSome first (λ n. (m : SectorMap) → AreInodes p m inodes → IsNameTable p m counts directories → ObeysBefore p m k → IsLeastFailure p m r n)
-    → IfNone first ((m : SectorMap) → AreInodes p m inodes → IsNameTable p m counts directories → ObeysBefore p m k → ObeysEach p m r)
-    → (m : SectorMap) → AreInodes p m inodes → IsNameTable p m counts directories → ObeysBefore p m k
-    → MatchOption first (ObeysEach p m r) (λ n. IsLeastFailure p m r n)
-of_image p r k inodes counts directories (Some n) some none m table named before = some m table named before
-of_image p r k inodes counts directories None some none m table named before = none m table named before
 
 -- the answer to the least number that fails rule k, if one does
 abbrev IsAnswer : ℕ → Option ℕ → Result (Unit {0}) CheckFault → Type 0
@@ -51,14 +41,10 @@ module _ (p : Geometry) (m : SectorMap) where
   tree_next k u r was x = subst (λ z. MatchResult z (λ _. ObeysBefore p m k) (IsFailureOf p m)) was x
 
 -- one that holds of the image, and the next may be tried
-pub image_next : (p : Geometry) (r : ImageRule) (k : ℕ) → rule_number r ≡ k → (inodes : List Inode) (counts directories : List ℕ) (first : Option ℕ) (u : Unit {0})
+pub image_next : (p : Geometry) (m : SectorMap) (r : ImageRule) (k : ℕ) → rule_number r ≡ k → (first : Option ℕ) (u : Unit {0})
     (result : Result (Unit {0}) CheckFault) → IsAnswer k first result → result ≡ Ok u
-    → IfSome first (λ n. (m : SectorMap) → AreInodes p m inodes → IsNameTable p m counts directories → ObeysBefore p m k → IsLeastFailure p m r n)
-    → IfNone first ((m : SectorMap) → AreInodes p m inodes → IsNameTable p m counts directories → ObeysBefore p m k → ObeysEach p m r)
-    → (m : SectorMap) → AreInodes p m inodes → IsNameTable p m counts directories → ObeysBefore p m k → ObeysBefore p m (k + 1)
-image_next p r k is inodes counts directories first u result says was some none m table named before =
-    tree_next p m (k + 1) u result was
-    (rule_found p m r k is first result says (of_image p r k inodes counts directories first some none m table named before) before)
+    → MatchOption first (ObeysEach p m r) (λ n. IsLeastFailure p m r n) → ObeysBefore p m k → ObeysBefore p m (k + 1)
+image_next p m r k is first u result says was found before = tree_next p m (k + 1) u result was (rule_found p m r k is first result says found before)
 
 -- ---- a rule whose least failure is known before it is tried
 

@@ -2,11 +2,12 @@
 --     meaning        what a disk means: its recovered image
 --     BeginsWith        the superblock gives the geometry, and the commit names this log area and has these targets
 --     AreInodes, IsOwnerMap, IsNameCount, IsNamedBy, IsNameTable        the tables of a check
+--     HaveSizes, FindsLeast        the sizes of the tables; what a rule's test of them finds
 --     IsReason, Passed        why a check gives no summary; it only reads, and has a reason
 --     IsLeast, IsFirst        a finding of one rule; a finding
 --     IsFailure, IsFailureOf        the same of a map of sectors
 --     CountsTree, IsClean        the summary counts a tree; the disk stands for a tree that it counts
-use Rattle.std.specs.Prelude.{◌≡◌, ℕ, ◌<◌, ◌≤◌, List, length, get_or, Bool, false, not, ◌&&◌, ◌==◌, ◌-◌, count_by, drop, Result, IfErr, IsTrue, ◌↔◌}
+use Rattle.std.specs.Prelude.{◌≡◌, ℕ, ◌<◌, ◌≤◌, List, length, get_or, Bool, false, not, ◌&&◌, ◌==◌, ◌-◌, count_by, drop, Option, MatchOption, Result, IfErr, IsTrue, ◌↔◌}
 use Rattle.fs_layout.specs.declared.inode.Inode.{Inode}
 use Rattle.fs_layout.specs.declared.geometry.Geometry.{Geometry}
 use Rattle.fs_layout.specs.Bytes.{SectorMap}
@@ -18,7 +19,7 @@ use Rattle.fs_layout.specs.Recovered.{recovered}
 use Rattle.sector_disk.specs.Disk.{DiskState, OnlyReads, HasFailed, sector}
 use Rattle.fs_model.specs.Trees.{Tree, Room, free_inodes}
 use Rattle.fs_model.specs.Stands.{Stands}
-use Rattle.fs_model.specs.Rules.{IsGeometryOf, namings_in, namings, is_directory_kind, ImageRule, rule_number, ObeysBefore, IsLeastFailure, IsFinding}
+use Rattle.fs_model.specs.Rules.{IsGeometryOf, namings_in, namings, is_directory_kind, ImageRule, rule_number, ObeysEach, ObeysBefore, IsLeastFailure, IsFinding}
 use Rattle.fs_model.specs.Summaries.{named_files, nameless_files, directories, links, is_sealed, is_file_kind, is_link_kind, is_used, some_target}
 use Rattle.fs_check.specs.declared.faults.CheckFault.{CheckFault}
 use Rattle.fs_check.specs.declared.faults.CheckFault.TheVariants.{Found, DiskFault, OutOfMemory}
@@ -60,6 +61,17 @@ pub record IsNameTable (p : Geometry) (m : SectorMap) (counts directories : List
   pub counted : IsNameCount p m counts
   pub len : length directories ≡ p.inodes
   pub named_by : (n : ℕ) → n < p.inodes → 1 ≤ namings p m n → IsNamedBy p m (get_or directories n 0) n
+
+-- the sizes of the tables
+pub record HaveSizes (p : Geometry) (inodes : List Inode) (counts directories : List ℕ) : Type 0 where
+  pub few : length inodes ≤ p.inodes
+  pub counts_len : length counts ≡ p.inodes
+  pub directories_len : length directories ≡ p.inodes
+
+-- what a test of a rule finds in the tables of an image that obeys the rules before: the least number that fails it, if one does
+abbrev pub FindsLeast : ImageRule → Geometry → List Inode → List ℕ → List ℕ → Option ℕ → Type 0
+FindsLeast r p inodes counts directories first = (m : SectorMap) → AreInodes p m inodes → IsNameTable p m counts directories
+    → ObeysBefore p m (rule_number r) → MatchOption first (ObeysEach p m r) (λ n. IsLeastFailure p m r n)
 
 -- ---- what is answered
 

@@ -1,10 +1,10 @@
 //! A check: the rules in their order, and what a clean disk has.
 
-ghost use Rattle.std.specs.Prelude.{◌≡◌, ◌≤◌, length, Ok, Err, OnOk, IfOk, MatchOption, MatchResult};
+ghost use Rattle.std.specs.Prelude.{◌≡◌, Ok, Err, OnOk, IfOk, MatchOption, MatchResult};
 ghost use Rattle.fs_layout.specs.Bytes.{SectorMap};
 ghost use Rattle.fs_model.specs.Rules.{ObeysBefore};
 ghost use Rattle.fs_check.specs.declared.faults.CheckFault.TheVariants.{Found};
-ghost use Rattle.fs_check.specs.Checks.{meaning, BeginsWith, AreInodes, IsOwnerMap, IsNameTable, IsFailureOf, Passed, IsFirst, IsClean};
+ghost use Rattle.fs_check.specs.Checks.{meaning, BeginsWith, AreInodes, IsOwnerMap, IsNameTable, HaveSizes, IsFailureOf, Passed, IsFirst, IsClean};
 
 use crate::acls::acls;
 use crate::bit_table::BitTable;
@@ -98,9 +98,7 @@ fn found_at(rule: u8, first: Option<u32>) -> Checked<()>
 
 // What the tables say: how often each inode is named, parents, and the ways up to the root.
 fn check_tree(alloc: Global, geometry: Geometry, inodes: &[Inode], names: &Names) -> Checked<()>
-    requires inodes { length inodes.now ≤ geometry.inodes }
-    requires counts { length names.now.counts.items ≡ geometry.inodes }
-    requires directories { length names.now.directories.items ≡ geometry.inodes }
+    requires { HaveSizes geometry inodes.now names.now.counts.items names.now.directories.items }
     ensures { (m : SectorMap) → AreInodes geometry m inodes.now → IsNameTable geometry m names.now.counts.items names.now.directories.items
         → ObeysBefore geometry m 12 → MatchResult result (λ _. ObeysBefore geometry m 15) (IsFailureOf geometry m) }
 {

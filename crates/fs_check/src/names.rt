@@ -1,9 +1,8 @@
 //! How often each inode is named, and its parent.
 
-ghost use Rattle.std.specs.Prelude.{◌≡◌, ◌≤◌, length, IsTrue, ◌↔◌, IfSome, IfNone};
-ghost use Rattle.fs_layout.specs.Bytes.{SectorMap};
-ghost use Rattle.fs_model.specs.Rules.{HasNameCount, ObeysEach, ObeysBefore, IsLeastFailure, Names as NameCounts, Parents};
-ghost use Rattle.fs_check.specs.Checks.{AreInodes, IsNameTable};
+ghost use Rattle.std.specs.Prelude.{◌≡◌, IsTrue, ◌↔◌};
+ghost use Rattle.fs_model.specs.Rules.{HasNameCount, Names as NameCounts, Parents};
+ghost use Rattle.fs_check.specs.Checks.{HaveSizes, FindsLeast};
 ghost use Rattle.fs_check.specs.Ways.{the_parent};
 
 use crate::directories::Names;
@@ -25,12 +24,8 @@ fn has_name_count(version: Version, ino: u32, inode: &Inode, count: u64) -> bool
 
 /// The first inode whose count of names isn't the number of slots that name it, or isn't one that it may have.
 pub(crate) fn miscounted(geometry: Geometry, inodes: &[Inode], names: &Names) -> Option<u32>
-    requires inodes { length inodes.now ≤ geometry.inodes }
-    requires counts { length names.now.counts.items ≡ geometry.inodes }
-    ensures some { IfSome result (λ n. (m : SectorMap) → AreInodes geometry m inodes.now
-        → IsNameTable geometry m names.now.counts.items names.now.directories.items → ObeysBefore geometry m 12 → IsLeastFailure geometry m NameCounts n) }
-    ensures none { IfNone result ((m : SectorMap) → AreInodes geometry m inodes.now
-        → IsNameTable geometry m names.now.counts.items names.now.directories.items → ObeysBefore geometry m 12 → ObeysEach geometry m NameCounts) }
+    requires { HaveSizes geometry inodes.now names.now.counts.items names.now.directories.items }
+    ensures { FindsLeast NameCounts geometry inodes.now names.now.counts.items names.now.directories.items result }
 {
     for ino in 0..inodes.len() as u32 {
         let count = names.counts[ino as usize];
@@ -56,12 +51,8 @@ fn has_parent(ino: u32, inode: &Inode, parent_ino: u32) -> bool
 
 /// The first inode whose parent field isn't the directory that names it.
 pub(crate) fn misplaced(geometry: Geometry, inodes: &[Inode], names: &Names) -> Option<u32>
-    requires inodes { length inodes.now ≤ geometry.inodes }
-    requires directories { length names.now.directories.items ≡ geometry.inodes }
-    ensures some { IfSome result (λ n. (m : SectorMap) → AreInodes geometry m inodes.now
-        → IsNameTable geometry m names.now.counts.items names.now.directories.items → ObeysBefore geometry m 13 → IsLeastFailure geometry m Parents n) }
-    ensures none { IfNone result ((m : SectorMap) → AreInodes geometry m inodes.now
-        → IsNameTable geometry m names.now.counts.items names.now.directories.items → ObeysBefore geometry m 13 → ObeysEach geometry m Parents) }
+    requires { HaveSizes geometry inodes.now names.now.counts.items names.now.directories.items }
+    ensures { FindsLeast Parents geometry inodes.now names.now.counts.items names.now.directories.items result }
 {
     for ino in 0..inodes.len() as u32 {
         if !has_parent(ino, &inodes[ino as usize], names.directories[ino as usize]) {

@@ -48,3 +48,7 @@ pub returns-clause-passed : goal.returns-clause-passed
 returns-clause-passed g c =
     let reads = reads_joined c.in_ok-owned.ensures.passed.reads c.in_ok-check_contents.ensures.passed.reads in
     record { reads = reads_joined reads c.in_ok-names.ensures.passed.reads; reason = tt }
+
+pub check_tree-requires : goal.check_tree-requires
+check_tree-requires g c =
+    let named = c.in_ok-names.ensures.names in record { few = c.requires.table.len; counts_len = named.counted.len; directories_len = named.len }

@@ -7,8 +7,8 @@ use Rattle.fs_check.proofs.Namings.{IsPlaced, free_parent, parent_good, parent_m
 use Rattle.fs_check.proofs.Tests.{within, inode_here, free_behind, blank, refuses}
 use Rattle.fs_check.proofs.names.misplaced.Goals as goal
 
-pub returns-then-not-has_parent-clause-some : goal.returns-then-not-has_parent-clause-some
-returns-then-not-has_parent-clause-some c = λ m table named before.
+pub returns-then-not-has_parent : goal.returns-then-not-has_parent
+returns-then-not-has_parent c = λ m table named before.
     let p = c.args.geometry in
     let directories = c.args.names.now.directories.items in
     let n = c.loop-ino.ino in
@@ -24,8 +24,8 @@ returns-then-not-has_parent-clause-some c = λ m table named before.
           (subst (IsPlaced directories k) (table.each k below) (c.loop-ino.invariant k low));
     }
 
-pub returns-clause-none : goal.returns-clause-none
-returns-clause-none c = λ m table named before n lt.
+pub returns : goal.returns
+returns c = λ m table named before n lt.
     let p = c.args.geometry in
     let directories = c.args.names.now.directories.items in
     elim (cases_lt n c.loop-ino.ino) [
