@@ -14,7 +14,7 @@ use Rattle.fs_check.specs.declared.faults.CheckFault.{CheckFault}
 use Rattle.fs_check.specs.declared.faults.CheckFault.TheVariants.{Found, DiskFault, OutOfMemory}
 use Rattle.fs_check.specs.declared.owning.Pointers.{Pointers}
 use Rattle.fs_check.specs.Owning.{AreAtHand, HasLevelInData, HasAboveInData, OwnsData}
-use Rattle.fs_check.specs.Checks.{meaning, BeginsWith, AreInodes, IsReason, Passed, IsNone, IsLeast, IsFirst, IsFailureOf}
+use Rattle.fs_check.specs.Checks.{meaning, BeginsWith, AreInodes, AreTested, IsReason, Passed, IsNone, IsLeast, IsFirst, IsFailureOf}
 use Rattle.fs_model.proofs.Findings.{next_obeyed}
 
 -- facts of one state hold of the other
@@ -104,6 +104,10 @@ reads_once same time later quiet counts = reads_more reads_nothing same time lat
 
 pub before_still : {old mid : DiskState} {p : Geometry} {k : ℕ} → OnlyReads old mid → ObeysBefore p (meaning old) k → ObeysBefore p (meaning mid) k
 before_still {p = p} {k} reads x = subst (λ m. ObeysBefore p m k) (sym (meaning_same reads)) x
+
+pub tested_still : {old mid : DiskState} {p : Geometry} {k : ℕ} {inodes : List Inode} → OnlyReads old mid → AreTested p (meaning old) k inodes
+    → AreTested p (meaning mid) k inodes
+tested_still {p = p} {k} {inodes} reads x = subst (λ m. AreTested p m k inodes) (sym (meaning_same reads)) x
 
 pub before_back : {old mid : DiskState} {p : Geometry} {k : ℕ} → OnlyReads old mid → ObeysBefore p (meaning mid) k → ObeysBefore p (meaning old) k
 before_back {p = p} {k} reads x = subst (λ m. ObeysBefore p m k) (meaning_same reads) x

@@ -1,7 +1,7 @@
 -- What a check says of a disk, which it only reads.
 --     meaning        what a disk means: its recovered image
 --     BeginsWith        the superblock gives the geometry, and the commit names this log area and has these targets
---     AreInodes, IsOwnerMap, IsNameCount, IsNamedBy, IsNameTable        the tables of a check
+--     AreInodes, AreTested, IsOwnerMap, IsNameCount, IsNamedBy, IsNameTable        the tables of a check
 --     HaveSizes, FindsLeast        the sizes of the tables; what a rule's test of them finds
 --     IsReason, Passed        why a check gives no summary; it only reads, and has a reason
 --     IsLeast, IsFirst        a finding of one rule; a finding
@@ -41,6 +41,11 @@ pub record BeginsWith (disk : DiskState) (p : Geometry) (area : ℕ) (targets : 
 pub record AreInodes (p : Geometry) (m : SectorMap) (inodes : List Inode) : Type 0 where
   pub len : length inodes ≤ p.inodes
   pub each : (n : ℕ) → n < p.inodes → get_or inodes n free_inode ≡ inode_at p m n
+
+-- the inodes of an image that obeys the rules before k
+pub record AreTested (p : Geometry) (m : SectorMap) (k : ℕ) (inodes : List Inode) : Type 0 where
+  pub table : AreInodes p m inodes
+  pub before : ObeysBefore p m k
 
 -- which sectors are owned
 pub record IsOwnerMap (p : Geometry) (m : SectorMap) (owned : List Bool) : Type 0 where

@@ -2,9 +2,9 @@
 
 ghost use Rattle.std.specs.Prelude.{◌≡◌, ◌≢◌, ◌<◌, ◌≤◌, length, map, OnOk, IfOk, MatchOption, IsTrue, IsFalse, ◌↔◌, vec_capacity};
 ghost use Rattle.posix_acl.specs.Entries.{numbers_of};
-ghost use Rattle.fs_model.specs.Rules.{ObeysEach, ObeysBefore, Acls, HasAcls};
+ghost use Rattle.fs_model.specs.Rules.{ObeysEach, Acls, HasAcls};
 ghost use Rattle.fs_check.specs.StoredAcls.{AreNoEntries, IsListed, IsAclIn, GoesWith, HasGoodAcl, HasListsInPlace};
-ghost use Rattle.fs_check.specs.Checks.{meaning, BeginsWith, AreInodes, Passed, IsNone, IsLeast};
+ghost use Rattle.fs_check.specs.Checks.{meaning, BeginsWith, AreTested, Passed, IsNone, IsLeast};
 
 use crate::faults::{CheckFault, Checked, Finding};
 use crate::opening::Opened;
@@ -165,8 +165,7 @@ fn has_good_acls<D: Disk>(disk: &mut D, opened: &Opened, inode: &Inode) -> Check
 /// Each sector of an ACL has a valid one, with the mode's bits, and none is where it mustn't be.
 pub(crate) fn acls<D: Disk>(disk: &mut D, opened: &Opened, inodes: &[Inode]) -> Checked<()>
     requires opened { BeginsWith (D.state disk.old) opened.now.geometry opened.now.area opened.now.commit }
-    requires table { AreInodes opened.now.geometry (meaning (D.state disk.old)) inodes.now }
-    requires before { ObeysBefore opened.now.geometry (meaning (D.state disk.old)) 9 }
+    requires inodes { AreTested opened.now.geometry (meaning (D.state disk.old)) 9 inodes.now }
     ensures each { OnOk result (ObeysEach opened.now.geometry (meaning (D.state disk.old)) Acls) }
     ensures passed { Passed (IsLeast opened.now.geometry Acls) (D.state disk.old) (D.state disk.new) result }
 {

@@ -4,7 +4,7 @@ ghost use Rattle.std.specs.Prelude.{◌≡◌, Ok, Err, OnOk, IfOk, MatchOption,
 ghost use Rattle.fs_layout.specs.Bytes.{SectorMap};
 ghost use Rattle.fs_model.specs.Rules.{ObeysBefore};
 ghost use Rattle.fs_check.specs.declared.faults.CheckFault.TheVariants.{Found};
-ghost use Rattle.fs_check.specs.Checks.{meaning, BeginsWith, AreInodes, IsOwnerMap, IsNameTable, HaveSizes, IsFailureOf, Passed, IsFirst, IsClean};
+ghost use Rattle.fs_check.specs.Checks.{meaning, BeginsWith, AreInodes, AreTested, IsOwnerMap, IsNameTable, HaveSizes, IsFailureOf, Passed, IsFirst, IsClean};
 
 use crate::acls::acls;
 use crate::bit_table::BitTable;
@@ -47,8 +47,7 @@ fn check_tables<D: Disk>(disk: &mut D, opened: &Opened) -> Checked<Vec<Inode>>
 // What inodes own, and the block bitmap.
 fn check_owners<D: Disk>(disk: &mut D, opened: &Opened, inodes: &[Inode]) -> Checked<BitTable>
     requires opened { BeginsWith (D.state disk.old) opened.now.geometry opened.now.area opened.now.commit }
-    requires table { AreInodes opened.now.geometry (meaning (D.state disk.old)) inodes.now }
-    requires before { ObeysBefore opened.now.geometry (meaning (D.state disk.old)) 5 }
+    requires inodes { AreTested opened.now.geometry (meaning (D.state disk.old)) 5 inodes.now }
     ensures owners { IfOk result (λ owned. IsOwnerMap opened.now.geometry (meaning (D.state disk.old)) owned) }
     ensures before { OnOk result (ObeysBefore opened.now.geometry (meaning (D.state disk.old)) 8) }
     ensures passed { Passed IsFirst (D.state disk.old) (D.state disk.new) result }
@@ -62,8 +61,7 @@ fn check_owners<D: Disk>(disk: &mut D, opened: &Opened, inodes: &[Inode]) -> Che
 // What stands in blocks and ACL sectors.
 fn check_contents<D: Disk>(disk: &mut D, opened: &Opened, inodes: &[Inode]) -> Checked<()>
     requires opened { BeginsWith (D.state disk.old) opened.now.geometry opened.now.area opened.now.commit }
-    requires table { AreInodes opened.now.geometry (meaning (D.state disk.old)) inodes.now }
-    requires before { ObeysBefore opened.now.geometry (meaning (D.state disk.old)) 8 }
+    requires inodes { AreTested opened.now.geometry (meaning (D.state disk.old)) 8 inodes.now }
     ensures before { OnOk result (ObeysBefore opened.now.geometry (meaning (D.state disk.old)) 10) }
     ensures passed { Passed IsFirst (D.state disk.old) (D.state disk.new) result }
 {
@@ -74,8 +72,7 @@ fn check_contents<D: Disk>(disk: &mut D, opened: &Opened, inodes: &[Inode]) -> C
 // The names in directories.
 fn check_names<D: Disk>(disk: &mut D, opened: &Opened, inodes: &[Inode]) -> Checked<Names>
     requires opened { BeginsWith (D.state disk.old) opened.now.geometry opened.now.area opened.now.commit }
-    requires table { AreInodes opened.now.geometry (meaning (D.state disk.old)) inodes.now }
-    requires before { ObeysBefore opened.now.geometry (meaning (D.state disk.old)) 10 }
+    requires inodes { AreTested opened.now.geometry (meaning (D.state disk.old)) 10 inodes.now }
     ensures names { IfOk result (λ names.
         IsNameTable opened.now.geometry (meaning (D.state disk.old)) names.counts.items names.directories.items) }
     ensures before { OnOk result (ObeysBefore opened.now.geometry (meaning (D.state disk.old)) 12) }
@@ -110,8 +107,7 @@ fn check_tree(alloc: Global, geometry: Geometry, inodes: &[Inode], names: &Names
 // All that inodes hold.
 fn check_inodes<D: Disk>(disk: &mut D, opened: &Opened, inodes: &[Inode]) -> Checked<BitTable>
     requires opened { BeginsWith (D.state disk.old) opened.now.geometry opened.now.area opened.now.commit }
-    requires table { AreInodes opened.now.geometry (meaning (D.state disk.old)) inodes.now }
-    requires before { ObeysBefore opened.now.geometry (meaning (D.state disk.old)) 5 }
+    requires inodes { AreTested opened.now.geometry (meaning (D.state disk.old)) 5 inodes.now }
     ensures owners { IfOk result (λ owned. IsOwnerMap opened.now.geometry (meaning (D.state disk.old)) owned) }
     ensures before { OnOk result (ObeysBefore opened.now.geometry (meaning (D.state disk.old)) 15) }
     ensures passed { Passed IsFirst (D.state disk.old) (D.state disk.new) result }

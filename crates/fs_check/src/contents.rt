@@ -5,10 +5,10 @@ ghost use Rattle.fs_layout.specs.declared.inode.TheConstants.{POINTER_LEVELS};
 ghost use Rattle.fs_layout.specs.Bytes.{SectorMap};
 ghost use Rattle.fs_layout.specs.Images.{IsTrimmed, HasNoHole};
 ghost use Rattle.fs_model.specs.Nodes.{numbers_for};
-ghost use Rattle.fs_model.specs.Rules.{ObeysEach, ObeysBefore, LaidOut, IsLaidOut};
+ghost use Rattle.fs_model.specs.Rules.{ObeysEach, LaidOut, IsLaidOut};
 ghost use Rattle.fs_check.specs.LastBlocks.{HasSize, AreNone, IsCut, FitsSize, FitsLast};
 ghost use Rattle.fs_check.specs.Owning.{AreListed, AreAtHand, OwnsData};
-ghost use Rattle.fs_check.specs.Checks.{meaning, BeginsWith, AreInodes, Passed, IsNone, IsLeast};
+ghost use Rattle.fs_check.specs.Checks.{meaning, BeginsWith, AreTested, Passed, IsNone, IsLeast};
 
 use crate::faults::{CheckFault, Checked, Finding};
 use crate::opening::Opened;
@@ -234,8 +234,7 @@ fn is_laid_out<D: Disk>(
 /// Past the size of each inode there is nothing, only files have holes, and no link's target has a zero byte.
 pub(crate) fn laid_out<D: Disk>(disk: &mut D, opened: &Opened, inodes: &[Inode]) -> Checked<()>
     requires opened { BeginsWith (D.state disk.old) opened.now.geometry opened.now.area opened.now.commit }
-    requires table { AreInodes opened.now.geometry (meaning (D.state disk.old)) inodes.now }
-    requires before { ObeysBefore opened.now.geometry (meaning (D.state disk.old)) 8 }
+    requires inodes { AreTested opened.now.geometry (meaning (D.state disk.old)) 8 inodes.now }
     ensures each { OnOk result (ObeysEach opened.now.geometry (meaning (D.state disk.old)) LaidOut) }
     ensures passed { Passed (IsLeast opened.now.geometry LaidOut) (D.state disk.old) (D.state disk.new) result }
 {

@@ -3,9 +3,9 @@
 ghost use Rattle.std.specs.Prelude.{◌≡◌, ◌<◌, ◌+◌, ◌^◌, ℕ, length, get_or, OnOk, IfOk, IsTrue, ◌↔◌, All, set, MatchOption};
 ghost use Rattle.fs_layout.specs.Bytes.{SectorMap};
 ghost use Rattle.fs_layout.specs.Directories.{HaveDistinctNames};
-ghost use Rattle.fs_model.specs.Rules.{Obeys, ObeysEach, ObeysBefore, IsLeastFailure, Slots, NamesApart};
+ghost use Rattle.fs_model.specs.Rules.{Obeys, ObeysEach, IsLeastFailure, Slots, NamesApart};
 ghost use Rattle.fs_check.specs.Naming.{AddsSlots, IsRepeated, IsNaming};
-ghost use Rattle.fs_check.specs.Checks.{meaning, BeginsWith, AreInodes, IsNameTable, Passed, IsNone, IsLeast};
+ghost use Rattle.fs_check.specs.Checks.{meaning, BeginsWith, AreTested, IsNameTable, Passed, IsNone, IsLeast};
 
 use crate::faults::{CheckFault, Checked, Finding};
 use crate::opening::Opened;
@@ -90,8 +90,7 @@ fn add_directory<D: Disk>(
     names: &mut Names,
 ) -> Checked<bool>
     requires opened { BeginsWith (D.state disk.old) opened.now.geometry opened.now.area opened.now.commit }
-    requires table { AreInodes opened.now.geometry (meaning (D.state disk.old)) inodes.now }
-    requires before { ObeysBefore opened.now.geometry (meaning (D.state disk.old)) 10 }
+    requires inodes { AreTested opened.now.geometry (meaning (D.state disk.old)) 10 inodes.now }
     requires below { dir_ino < length inodes.now }
     requires names { IsNaming opened.now.geometry (meaning (D.state disk.old)) dir_ino
         names.old.counts.items names.old.directories.items names.old.repeated }
@@ -120,8 +119,7 @@ fn add_directories<D: Disk>(
     names: &mut Names,
 ) -> Checked<()>
     requires opened { BeginsWith (D.state disk.old) opened.now.geometry opened.now.area opened.now.commit }
-    requires table { AreInodes opened.now.geometry (meaning (D.state disk.old)) inodes.now }
-    requires before { ObeysBefore opened.now.geometry (meaning (D.state disk.old)) 10 }
+    requires inodes { AreTested opened.now.geometry (meaning (D.state disk.old)) 10 inodes.now }
     requires none { IsNaming opened.now.geometry (meaning (D.state disk.old)) 0
         names.old.counts.items names.old.directories.items names.old.repeated }
     ensures each { OnOk result (ObeysEach opened.now.geometry (meaning (D.state disk.old)) Slots) }
@@ -144,8 +142,7 @@ fn add_directories<D: Disk>(
 /// directory is read once.
 pub(crate) fn read_names<D: Disk>(disk: &mut D, opened: &Opened, inodes: &[Inode]) -> Checked<Names>
     requires opened { BeginsWith (D.state disk.old) opened.now.geometry opened.now.area opened.now.commit }
-    requires table { AreInodes opened.now.geometry (meaning (D.state disk.old)) inodes.now }
-    requires before { ObeysBefore opened.now.geometry (meaning (D.state disk.old)) 10 }
+    requires inodes { AreTested opened.now.geometry (meaning (D.state disk.old)) 10 inodes.now }
     ensures each { OnOk result (ObeysEach opened.now.geometry (meaning (D.state disk.old)) Slots) }
     ensures names { IfOk result (λ names.
         IsNameTable opened.now.geometry (meaning (D.state disk.old)) names.counts.items names.directories.items) }

@@ -7,7 +7,7 @@ use Rattle.fs_check.proofs.checking.check_contents.Goals as goal
 
 pub returns-in_err-laid_out-clause-passed : goal.returns-in_err-laid_out-clause-passed
 returns-in_err-laid_out-clause-passed g c =
-    first_error (g.D.Disk.state c.args.disk.now) (g.D.Disk.state c.laid_out.new.disk) LaidOut 8 refl c.requires.opened c.requires.before _
+    first_error (g.D.Disk.state c.args.disk.now) (g.D.Disk.state c.laid_out.new.disk) LaidOut 8 refl c.requires.opened c.requires.inodes.before _
     c.from_residual.result (err_from_is_err_and c.from_residual.result c.from_residual.ensures.1) c.in_err-laid_out.ensures.passed
 
 pub returns : goal.returns
@@ -16,10 +16,10 @@ returns g c =
     record {
       before =
           both_obeyed (g.D.Disk.state c.args.disk.now) (g.D.Disk.state c.laid_out.new.disk) (g.D.Disk.state c.acls.new.disk) LaidOut Acls 8 refl refl
-          c.requires.opened c.requires.before laid.passed.reads laid.each c.acls.result c.acls.ensures.each;
+          c.requires.opened c.requires.inodes.before laid.passed.reads laid.each c.acls.result c.acls.ensures.each;
       passed =
           second_passed (g.D.Disk.state c.args.disk.now) (g.D.Disk.state c.laid_out.new.disk) (g.D.Disk.state c.acls.new.disk) LaidOut Acls 8 refl refl
-          c.requires.opened c.requires.before laid.passed.reads laid.each c.acls.result c.acls.ensures.passed;
+          c.requires.opened c.requires.inodes.before laid.passed.reads laid.each c.acls.result c.acls.ensures.passed;
     }
 
 pub acls-requires : goal.acls-requires
@@ -28,6 +28,8 @@ acls-requires g c =
     let s0 = g.D.Disk.state c.args.disk.now in
     record {
       opened = opened_still laid.passed.reads c.requires.opened;
-      table = table_still laid.passed.reads c.requires.table;
-      before = before_still laid.passed.reads (next_before s0 s0 LaidOut 8 refl reads_nothing c.requires.before laid.each);
+      inodes = record {
+        table = table_still laid.passed.reads c.requires.inodes.table;
+        before = before_still laid.passed.reads (next_before s0 s0 LaidOut 8 refl reads_nothing c.requires.inodes.before laid.each);
+      };
     }

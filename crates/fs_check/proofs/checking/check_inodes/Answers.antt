@@ -12,7 +12,7 @@ returns-in_err-check_tree-clause-passed g c =
     let r2 : OnlyReads s0 s2 = reads_joined c.in_ok-owned.ensures.passed.reads c.in_ok-check_contents.ensures.passed.reads in
     let q = err_from_is_err_and c.from_residual-in_err-check_tree.result c.from_residual-in_err-check_tree.ensures.1 in
     failed_of s0 s2 s3 r2 c.in_ok-names.ensures.passed.reads c.requires.opened _ q.0 c.from_residual-in_err-check_tree.result q.1 q.2
-    (c.in_err-check_tree.ensures _ (table_still r2 c.requires.table) c.in_ok-names.ensures.names c.in_ok-names.ensures.before)
+    (c.in_err-check_tree.ensures _ (table_still r2 c.requires.inodes.table) c.in_ok-names.ensures.names c.in_ok-names.ensures.before)
 
 pub returns-in_err-owned-clause-passed : goal.returns-in_err-owned-clause-passed
 returns-in_err-owned-clause-passed g c = same_error c.from_residual.result c.from_residual.ensures.1 c.in_err-owned.ensures.passed
@@ -20,7 +20,10 @@ returns-in_err-owned-clause-passed g c = same_error c.from_residual.result c.fro
 pub check_contents-requires : goal.check_contents-requires
 check_contents-requires g c =
     let reads = c.in_ok-owned.ensures.passed.reads in
-    record { opened = opened_still reads c.requires.opened; table = table_still reads c.requires.table; before = before_still reads c.in_ok-owned.ensures.before }
+    record {
+      opened = opened_still reads c.requires.opened;
+      inodes = record { table = table_still reads c.requires.inodes.table; before = before_still reads c.in_ok-owned.ensures.before };
+    }
 
 pub returns-in_err-check_contents-clause-passed : goal.returns-in_err-check_contents-clause-passed
 returns-in_err-check_contents-clause-passed g c =
@@ -31,7 +34,10 @@ pub check_names-requires : goal.check_names-requires
 check_names-requires g c =
     let then = c.in_ok-check_contents.ensures in
     let reads = reads_joined c.in_ok-owned.ensures.passed.reads then.passed.reads in
-    record { opened = opened_still reads c.requires.opened; table = table_still reads c.requires.table; before = before_still then.passed.reads then.before }
+    record {
+      opened = opened_still reads c.requires.opened;
+      inodes = record { table = table_still reads c.requires.inodes.table; before = before_still then.passed.reads then.before };
+    }
 
 pub returns-in_err-names-clause-passed : goal.returns-in_err-names-clause-passed
 returns-in_err-names-clause-passed g c =
@@ -42,7 +48,7 @@ returns-in_err-names-clause-passed g c =
 pub returns-clause-before : goal.returns-clause-before
 returns-clause-before g c =
     let reads = reads_joined c.in_ok-owned.ensures.passed.reads c.in_ok-check_contents.ensures.passed.reads in
-    before_back reads (c.in_ok-check_tree.ensures _ (table_still reads c.requires.table) c.in_ok-names.ensures.names c.in_ok-names.ensures.before)
+    before_back reads (c.in_ok-check_tree.ensures _ (table_still reads c.requires.inodes.table) c.in_ok-names.ensures.names c.in_ok-names.ensures.before)
 
 pub returns-clause-passed : goal.returns-clause-passed
 returns-clause-passed g c =
@@ -51,4 +57,4 @@ returns-clause-passed g c =
 
 pub check_tree-requires : goal.check_tree-requires
 check_tree-requires g c =
-    let named = c.in_ok-names.ensures.names in record { few = c.requires.table.len; counts_len = named.counted.len; directories_len = named.len }
+    let named = c.in_ok-names.ensures.names in record { few = c.requires.inodes.table.len; counts_len = named.counted.len; directories_len = named.len }

@@ -9,7 +9,7 @@ use Rattle.fs_check.proofs.checking.check_owners.Goals as goal
 
 pub returns-in_err-owners-clause-passed : goal.returns-in_err-owners-clause-passed
 returns-in_err-owners-clause-passed g c =
-    first_error (g.D.Disk.state c.args.disk.now) (g.D.Disk.state c.read_owners.new.disk) InData 5 refl c.requires.opened c.requires.before _
+    first_error (g.D.Disk.state c.args.disk.now) (g.D.Disk.state c.read_owners.new.disk) InData 5 refl c.requires.opened c.requires.inodes.before _
     c.from_residual.result (err_from_is_err_and c.from_residual.result c.from_residual.ensures.1) c.in_err-owners.ensures.passed
 
 pub returns-clause-passed : goal.returns-clause-passed
@@ -19,7 +19,7 @@ pub returns-in_err-found_at-clause-passed : goal.returns-in_err-found_at-clause-
 returns-in_err-found_at-clause-passed g c =
     let read = c.in_ok-owners.ensures in
     let left = c.from_residual-in_err-found_at in
-    found_error (g.D.Disk.state c.args.disk.now) (g.D.Disk.state c.read_owners.new.disk) InData OwnedOnce 5 refl refl c.requires.opened c.requires.before
+    found_error (g.D.Disk.state c.args.disk.now) (g.D.Disk.state c.read_owners.new.disk) InData OwnedOnce 5 refl refl c.requires.opened c.requires.inodes.before
     read.passed.reads read.each c.in_ok-owners.owners.twice read.twice _ left.result (err_from_is_err_and left.result left.ensures.1) c.in_err-found_at.ensures
 
 pub returns-in_err-block_bits-clause-passed : goal.returns-in_err-block_bits-clause-passed
@@ -29,7 +29,7 @@ returns-in_err-block_bits-clause-passed g c =
     let read = c.in_ok-owners.ensures in
     let left = c.from_residual-in_err-block_bits in
     rule_error s0 s1 (g.D.Disk.state c.block_bits.new.disk) BlockBits 7 refl read.passed.reads c.requires.opened
-    (both_before s0 s1 InData OwnedOnce 5 refl refl c.requires.opened c.requires.before read.passed.reads read.each c.in_ok-owners.owners.twice read.twice
+    (both_before s0 s1 InData OwnedOnce 5 refl refl c.requires.opened c.requires.inodes.before read.passed.reads read.each c.in_ok-owners.owners.twice read.twice
     c.in_ok-found_at.ensures) _ left.result (err_from_is_err_and left.result left.ensures.1) c.in_err-block_bits.ensures.passed
 
 pub returns-clause-before : goal.returns-clause-before
@@ -38,7 +38,7 @@ returns-clause-before g c =
     let s1 = g.D.Disk.state c.read_owners.new.disk in
     let read = c.in_ok-owners.ensures in
     next_before s0 s1 BlockBits 7 refl read.passed.reads
-    (both_before s0 s1 InData OwnedOnce 5 refl refl c.requires.opened c.requires.before read.passed.reads read.each c.in_ok-owners.owners.twice read.twice
+    (both_before s0 s1 InData OwnedOnce 5 refl refl c.requires.opened c.requires.inodes.before read.passed.reads read.each c.in_ok-owners.owners.twice read.twice
     c.in_ok-found_at.ensures) c.in_ok-block_bits.ensures.each
 
 pub block_bits-requires : goal.block_bits-requires

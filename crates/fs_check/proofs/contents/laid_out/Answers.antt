@@ -17,8 +17,8 @@ is_laid_out-requires-clause-in_data g c =
     let s0 = g.D.Disk.state c.args.disk.now in
     let p = c.args.opened.now.geometry in
     let lt = c.loop-ino-test.true in
-    let here = inode_here p (meaning s0) c.args.inodes.now c.loop-ino.ino blank c.requires.table lt in
-    let now : (s : ℕ) → Owns (meaning s0) (inode_at p (meaning s0) c.loop-ino.ino) s → IsData p s = c.requires.before InData (omega arith) c.loop-ino.ino (within p (meaning s0) c.args.inodes.now c.loop-ino.ino c.requires.table lt) in
+    let here = inode_here p (meaning s0) c.args.inodes.now c.loop-ino.ino blank c.requires.inodes.table lt in
+    let now : (s : ℕ) → Owns (meaning s0) (inode_at p (meaning s0) c.loop-ino.ino) s → IsData p s = c.requires.inodes.before InData (omega arith) c.loop-ino.ino (within p (meaning s0) c.args.inodes.now c.loop-ino.ino c.requires.inodes.table lt) in
     subst (λ (m : SectorMap). (s : ℕ) → Owns m (get_or c.args.inodes.now c.loop-ino.ino blank) s → IsData p s) (sym (meaning_same c.loop-ino.invariant.tried.reads))
     (subst (λ (v : Inode). (s : ℕ) → Owns (meaning s0) v s → IsData p s) (sym here) now)
 
@@ -27,8 +27,8 @@ is_laid_out-requires-clause-size g c =
     let m = meaning (g.D.Disk.state c.args.disk.now) in
     let p = c.args.opened.now.geometry in
     let lt = c.loop-ino-test.true in
-    subst HasSize (sym (inode_here p m c.args.inodes.now c.loop-ino.ino blank c.requires.table lt))
-    (good_size p m c.loop-ino.ino (c.requires.before Inodes (omega arith) c.loop-ino.ino (within p m c.args.inodes.now c.loop-ino.ino c.requires.table lt)))
+    subst HasSize (sym (inode_here p m c.args.inodes.now c.loop-ino.ino blank c.requires.inodes.table lt))
+    (good_size p m c.loop-ino.ino (c.requires.inodes.before Inodes (omega arith) c.loop-ino.ino (within p m c.args.inodes.now c.loop-ino.ino c.requires.inodes.table lt)))
 
 pub loop-ino-init : goal.loop-ino-init
 loop-ino-init g c = record {
@@ -39,7 +39,7 @@ loop-ino-init g c = record {
 pub loop-ino-preserved : goal.loop-ino-preserved
 loop-ino-preserved g c = record {
   tried = next_tried IsLaidOut c.args.opened.now.geometry (g.D.Disk.state c.args.disk.now) (g.D.Disk.state c.loop-ino.disk) (g.D.Disk.state c.is_laid_out.new.disk) c.args.inodes.now c.loop-ino.ino _
-      c.in_ok-is_laid_out.field-0 c.loop-ino.invariant.tried c.in_ok-is_laid_out.ensures.passed.reads c.requires.table c.loop-ino-test.true c.in_ok-is_laid_out.ensures.test
+      c.in_ok-is_laid_out.field-0 c.loop-ino.invariant.tried c.in_ok-is_laid_out.ensures.passed.reads c.requires.inodes.table c.loop-ino-test.true c.in_ok-is_laid_out.ensures.test
       c.if-not-branch.false;
   at_hand = hand_back c.loop-ino.invariant.tried.reads c.is_laid_out.new.pointers c.in_ok-is_laid_out.ensures.at_hand;
 }
@@ -47,18 +47,18 @@ loop-ino-preserved g c = record {
 pub returns-then-not-branch-clause-passed : goal.returns-then-not-branch-clause-passed
 returns-then-not-branch-clause-passed g c =
     fails_here IsLaidOut c.args.opened.now.geometry (g.D.Disk.state c.args.disk.now) (g.D.Disk.state c.loop-ino.disk) (g.D.Disk.state c.is_laid_out.new.disk) c.args.inodes.now c.loop-ino.ino _
-    c.in_ok-is_laid_out.field-0 c.loop-ino.invariant.tried c.in_ok-is_laid_out.ensures.passed.reads c.requires.table c.loop-ino-test.true c.in_ok-is_laid_out.ensures.test
+    c.in_ok-is_laid_out.field-0 c.loop-ino.invariant.tried c.in_ok-is_laid_out.ensures.passed.reads c.requires.inodes.table c.loop-ino-test.true c.in_ok-is_laid_out.ensures.test
     LaidOut (λ k. ((λ h. h), (λ h. h))) c.if-not-branch.true
 
 pub returns-clause-each : goal.returns-clause-each
 returns-clause-each g c =
     let s0 = g.D.Disk.state c.args.disk.now in
-    all_tried IsLaidOut c.args.opened.now.geometry s0 (g.D.Disk.state c.loop-ino.disk) c.args.inodes.now c.loop-ino.ino c.loop-ino.invariant.tried c.requires.table
+    all_tried IsLaidOut c.args.opened.now.geometry s0 (g.D.Disk.state c.loop-ino.disk) c.args.inodes.now c.loop-ino.ino c.loop-ino.invariant.tried c.requires.inodes.table
     c.loop-ino-test.false (free_is_laid_out (meaning s0))
 
 pub overflow_cast-ino-end : goal.overflow_cast-ino-end
 overflow_cast-ino-end g c =
-    let few = few_inodes _ _ c.args.opened.now.geometry _ c.args.inodes.now c.requires.opened.geometry c.requires.table in
+    let few = few_inodes _ _ c.args.opened.now.geometry _ c.args.inodes.now c.requires.opened.geometry c.requires.inodes.table in
     omega (arith, few)
 
 pub is_laid_out-requires-clause-opened : goal.is_laid_out-requires-clause-opened

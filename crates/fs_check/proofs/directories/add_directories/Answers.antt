@@ -6,7 +6,7 @@ use Rattle.fs_model.specs.Rules.{Obeys, Slots}
 use Rattle.sector_disk.proofs.Moments.{reads_joined}
 use Rattle.fs_check.specs.Checks.{meaning}
 use Rattle.fs_check.specs.Naming.{IsNaming}
-use Rattle.fs_check.proofs.Carrying.{meaning_same, opened_still, table_still, before_still, read_error}
+use Rattle.fs_check.proofs.Carrying.{meaning_same, opened_still, tested_still, read_error}
 use Rattle.fs_check.proofs.Tables.{more_good}
 use Rattle.fs_check.proofs.Tests.{few_inodes, free_behind, refuses}
 use Rattle.fs_check.proofs.Tallies.{whole_naming}
@@ -54,7 +54,7 @@ returns-clause-each g c = λ n lt is.
       | inl low ↦ c.loop-dir_ino.invariant.good n low lt is
       | inr ge ↦
           let past = c.loop-dir_ino-test.false in
-          let free = free_behind c.args.opened.now.geometry m c.args.inodes.now n c.requires.table (omega (arith, ge, past)) lt in
+          let free = free_behind c.args.opened.now.geometry m c.args.inodes.now n c.requires.inodes.table (omega (arith, ge, past)) lt in
           absurd (let e : Free ≡ Directory = sym (ap (λ (v : Inode). v.kind) free) ∙ is in cc)
     ]
 
@@ -62,22 +62,19 @@ pub returns-clause-names : goal.returns-clause-names
 returns-clause-names g c =
     let p = c.args.opened.now.geometry in
     let m = meaning (g.D.Disk.state c.args.disk.now) in
-    whole_naming p m c.args.inodes.now c.requires.table c.loop-dir_ino.dir_ino c.loop-dir_ino.names.counts.items c.loop-dir_ino.names.directories.items c.loop-dir_ino.names.repeated
-    c.loop-dir_ino-test.false (omega (arith, c.loop-dir_ino.auto.dir_ino-end, c.requires.table.len)) c.loop-dir_ino.invariant.naming
+    whole_naming p m c.args.inodes.now c.requires.inodes.table c.loop-dir_ino.dir_ino c.loop-dir_ino.names.counts.items c.loop-dir_ino.names.directories.items c.loop-dir_ino.names.repeated
+    c.loop-dir_ino-test.false (omega (arith, c.loop-dir_ino.auto.dir_ino-end, c.requires.inodes.table.len)) c.loop-dir_ino.invariant.naming
 
 pub overflow_cast-dir_ino-end : goal.overflow_cast-dir_ino-end
 overflow_cast-dir_ino-end g c =
-    let few = few_inodes _ _ c.args.opened.now.geometry _ c.args.inodes.now c.requires.opened.geometry c.requires.table in
+    let few = few_inodes _ _ c.args.opened.now.geometry _ c.args.inodes.now c.requires.opened.geometry c.requires.inodes.table in
     omega (arith, few)
 
 pub add_directory-requires-clause-opened : goal.add_directory-requires-clause-opened
 add_directory-requires-clause-opened g c = opened_still c.loop-dir_ino.invariant.reads c.requires.opened
 
-pub add_directory-requires-clause-table : goal.add_directory-requires-clause-table
-add_directory-requires-clause-table g c = table_still c.loop-dir_ino.invariant.reads c.requires.table
-
-pub add_directory-requires-clause-before : goal.add_directory-requires-clause-before
-add_directory-requires-clause-before g c = before_still c.loop-dir_ino.invariant.reads c.requires.before
+pub add_directory-requires-clause-inodes : goal.add_directory-requires-clause-inodes
+add_directory-requires-clause-inodes g c = tested_still c.loop-dir_ino.invariant.reads c.requires.inodes
 
 pub returns-in_err-add_directory-clause-passed : goal.returns-in_err-add_directory-clause-passed
 returns-in_err-add_directory-clause-passed g c = read_error c.loop-dir_ino.invariant.reads c.from_residual.result c.from_residual.ensures.1 c.in_err-add_directory.ensures.passed

@@ -21,7 +21,7 @@ returns-then-ne-clause-names g c =
     let m = meaning (g.D.Disk.state c.args.disk.now) in
     let p = c.args.opened.now.geometry in
     let d = c.args.dir_ino in
-    let here = inode_here p m c.args.inodes.now d blank c.requires.table c.requires.below in
+    let here = inode_here p m c.args.inodes.now d blank c.requires.inodes.table c.requires.below in
     let other : (get_or c.args.inodes.now d blank).kind ≢ Directory = search rules in
     λ t. same_naming p m d c.args.names.now.counts.items c.args.names.now.directories.items c.args.names.now.repeated
     (λ e. other (ap (λ (v : Inode). v.kind) here ∙ e)) c.requires.names
@@ -29,18 +29,18 @@ returns-then-ne-clause-names g c =
 pub read_good_slots-requires-clause-in_data : goal.read_good_slots-requires-clause-in_data
 read_good_slots-requires-clause-in_data g c =
     let m = meaning (g.D.Disk.state c.args.disk.now) in
-    let here = inode_here c.args.opened.now.geometry m c.args.inodes.now c.args.dir_ino blank c.requires.table c.requires.below in
-    subst (λ v. (s : ℕ) → Owns m v s → IsData c.args.opened.now.geometry s) (sym here) (c.requires.before InData (omega arith) c.args.dir_ino
-    (within c.args.opened.now.geometry m c.args.inodes.now c.args.dir_ino c.requires.table c.requires.below))
+    let here = inode_here c.args.opened.now.geometry m c.args.inodes.now c.args.dir_ino blank c.requires.inodes.table c.requires.below in
+    subst (λ v. (s : ℕ) → Owns m v s → IsData c.args.opened.now.geometry s) (sym here) (c.requires.inodes.before InData (omega arith) c.args.dir_ino
+    (within c.args.opened.now.geometry m c.args.inodes.now c.args.dir_ino c.requires.inodes.table c.requires.below))
 
 pub read_good_slots-requires-clause-size : goal.read_good_slots-requires-clause-size
 read_good_slots-requires-clause-size g c =
     let m = meaning (g.D.Disk.state c.args.disk.now) in
     let p = c.args.opened.now.geometry in
     let d = c.args.dir_ino in
-    let here = inode_here p m c.args.inodes.now d blank c.requires.table c.requires.below in
+    let here = inode_here p m c.args.inodes.now d blank c.requires.inodes.table c.requires.below in
     let is : (get_or c.args.inodes.now d blank).kind ≡ Directory = search rules in
-    subst (λ (v : Inode). v.size ≤ MAX_DIRECTORY_SIZE) (sym here) (directory_size p m d (c.requires.before Inodes (omega arith) d (within p m c.args.inodes.now d c.requires.table c.requires.below))
+    subst (λ (v : Inode). v.size ≤ MAX_DIRECTORY_SIZE) (sym here) (directory_size p m d (c.requires.inodes.before Inodes (omega arith) d (within p m c.args.inodes.now d c.requires.inodes.table c.requires.below))
     (sym (ap (λ (v : Inode). v.kind) here) ∙ is))
 
 pub add_slots-requires-clause-room : goal.add_slots-requires-clause-room
@@ -49,19 +49,19 @@ add_slots-requires-clause-room g c =
     let m = meaning s0 in
     let p = c.args.opened.now.geometry in
     let d = c.args.dir_ino in
-    let below = within p m c.args.inodes.now d c.requires.table c.requires.below in
+    let below = within p m c.args.inodes.now d c.requires.inodes.table c.requires.below in
     let at = table_geometry _ _ p d c.requires.opened.geometry below in
     let some = at.few in
-    let here = inode_here p m c.args.inodes.now d blank c.requires.table c.requires.below in
+    let here = inode_here p m c.args.inodes.now d blank c.requires.inodes.table c.requires.below in
     let is : (get_or c.args.inodes.now d blank).kind ≡ Directory = search rules in
-    let size = directory_size p m d (c.requires.before Inodes (omega arith) d below) (sym (ap (λ (v : Inode). v.kind) here) ∙ is) in
+    let size = directory_size p m d (c.requires.inodes.before Inodes (omega arith) d below) (sym (ap (λ (v : Inode). v.kind) here) ∙ is) in
     let found : AreSlots p.version m (get_or c.args.inodes.now d blank) c.in-Some.slots.items =
     (MatchOption-at_some _ _ c.in-Some.slots c.in-Some.is c.in_ok-slots.ensures.slots).1 in
     let len = found.len in
     let seen = ap length c.deref.ensures.value in
     subst (λ (l : List ℕ). (n : ℕ) → n < length l → get_or l n 0 + length c.deref.result.now < 18446744073709551616) (sym c.deref_mut.ensures.value) (λ n lt.
     let room = has_room p m d c.in-Some.slots.items c.args.names.now.counts.items c.args.names.now.directories.items some
-    (λ k low kind. directory_size p m k (c.requires.before Inodes (omega arith) k (omega (arith, low, below))) kind)
+    (λ k low kind. directory_size p m k (c.requires.inodes.before Inodes (omega arith) k (omega (arith, low, below))) kind)
     (let few = few_slots p.version (inode_at p m d) size in let count = ap (slot_count p.version) here in omega (arith, len, count, few)) c.requires.names.tally n lt in
     omega (arith, room, seen))
 
@@ -69,7 +69,7 @@ pub returns-clause-test : goal.returns-clause-test
 returns-clause-test g c =
     let m = meaning (g.D.Disk.state c.args.disk.now) in
     let p = c.args.opened.now.geometry in
-    let here = inode_here p m c.args.inodes.now c.args.dir_ino blank c.requires.table c.requires.below in
+    let here = inode_here p m c.args.inodes.now c.args.dir_ino blank c.requires.inodes.table c.requires.below in
     let good : HasGoodSlots p m (get_or c.args.inodes.now c.args.dir_ino blank) =
     (MatchOption-at_some _ _ c.in-Some.slots c.in-Some.is c.in_ok-slots.ensures.slots).0 in
     ((λ t lt kind. subst (HasGoodSlots p m) here good), (λ o. refl))
@@ -81,7 +81,7 @@ returns-clause-names g c =
     let d = c.args.dir_ino in
     let names = c.args.names.now in
     let slots = c.in-Some.slots.items in
-    let here = inode_here p m c.args.inodes.now d blank c.requires.table c.requires.below in
+    let here = inode_here p m c.args.inodes.now d blank c.requires.inodes.table c.requires.below in
     let is : (get_or c.args.inodes.now d blank).kind ≡ Directory = search rules in
     let found : AreSlots p.version m (get_or c.args.inodes.now d blank) c.in-Some.slots.items =
     (MatchOption-at_some _ _ c.in-Some.slots c.in-Some.is c.in_ok-slots.ensures.slots).1 in
@@ -93,7 +93,7 @@ returns-clause-names g c =
     (take_at c.add_slots.new.directories _ names.directories.len (c.add_slots.ensures.directories_len ∙ c.deref_mut-2.ensures.len))
     (next_naming p m d slots names.counts.items names.directories.items c.add_slots.new.counts c.add_slots.new.directories names.repeated
     c.first_repeated-names.result
-    (within p m c.args.inodes.now d c.requires.table c.requires.below) (sym (ap (λ (v : Inode). v.kind) here) ∙ is) are adds c.requires.names
+    (within p m c.args.inodes.now d c.requires.inodes.table c.requires.below) (sym (ap (λ (v : Inode). v.kind) here) ∙ is) are adds c.requires.names
     (λ x test. c.first_repeated-names.ensures p m x (subst (λ l. HaveDistinctNames l ↔ Obeys p m NamesApart d) (sym c.deref_mut-3.ensures.value) test)))
 
 pub returns-then-ne-clause-passed : goal.returns-then-ne-clause-passed
