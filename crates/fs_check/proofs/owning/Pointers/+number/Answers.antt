@@ -1,4 +1,4 @@
-use Rattle.std.proofs.Common.{◌≡◌, ◌<◌, ◌≤◌, ◌+◌, ◌-◌, ◌/◌, [], get_or, sym, ap, arith, rules, ◌∙◌}
+use Rattle.std.proofs.Common.{◌≡◌, ◌<◌, ◌≤◌, ◌+◌, ◌-◌, ◌/◌, [], get_or, sym, ap, arith, rules, subst, ◌∙◌}
 use Rattle.fs_layout.specs.declared.inode.TheConstants.{POINTER_LEVELS, SECTOR_POINTERS}
 use Rattle.fs_layout.specs.Images.{holder, number_on, own_count}
 use Rattle.fs_layout.proofs.Pointers.{no_level}
@@ -41,7 +41,7 @@ returns-then-s-eq0-clause-number g t c =
     let v = c.args.inode.now in
     let level = c.args.level in
     let ge : own_count level ≤ c.args.i = omega (arith, c.if-i-own.false, c.own_count-own.ensures) in
-    let is = c.in_ok-s.ensures.number ∙ ap (λ k. number_on m v (level + 1) ((c.args.i - k) / SECTOR_POINTERS)) c.own_count-own.ensures in
+    let is = subst (λ k. c.in_ok-s.s ≡ number_on m v (level + 1) ((c.args.i - k) / SECTOR_POINTERS)) c.own_count-own.ensures c.in_ok-s.ensures.number in
     sym (none_held m v level c.args.i ge (sym is ∙ c.if-s-eq0.true))
 
 pub load-requires-clause-opened : goal.load-requires-clause-opened
@@ -70,7 +70,7 @@ returns-clause-number g t c =
     let same : level + 1 - 1 ≡ level = omega arith in
     let read = ap (λ n. get_or contents n []) (sym same)
     ∙ content_back c.in_ok-s.ensures.passed.reads s (get_or contents (level + 1 - 1) []) c.in_ok-load.ensures.content in
-    let is = c.in_ok-s.ensures.number ∙ ap (λ k. number_on m v (level + 1) ((c.args.i - k) / SECTOR_POINTERS)) c.own_count-own.ensures in
+    let is = subst (λ k. c.in_ok-s.s ≡ number_on m v (level + 1) ((c.args.i - k) / SECTOR_POINTERS)) c.own_count-own.ensures c.in_ok-s.ensures.number in
     c.number-3.ensures m (has_above m v level c.args.i s (get_or contents level []) is c.if-s-eq0.false read)
 
 pub returns-clause-at_hand : goal.returns-clause-at_hand
