@@ -4,7 +4,7 @@ ghost use Rattle.std.specs.Prelude.{◌≡◌, ◌≢◌, ◌<◌, ◌≤◌, �
 ghost use Rattle.fs_layout.specs.Bytes.{SectorMap, u16_of};
 ghost use Rattle.fs_layout.specs.Images.{inode_map_bits, bit, stored};
 ghost use Rattle.fs_layout.specs.Ownership.{IsOwned};
-ghost use Rattle.fs_model.specs.Rules.{ObeysEach, InodeBits, BlockBits, IsBlockBit};
+ghost use Rattle.fs_model.specs.Rules.{ObeysEach, InodeBits, IsBit, BlockBits, IsBlockBit};
 ghost use Rattle.fs_check.specs.Checks.{meaning, BeginsWith, IsOwnerMap, Passed, IsNone, IsLeast};
 ghost use Rattle.fs_check.specs.TableSectors.{IsTableSector};
 
@@ -45,6 +45,14 @@ fn is_taken(geometry: Geometry, table: &[u8; 512], ino: u32) -> bool
     ino < 2 || geometry.inodes <= ino || kind_field(table, geometry.inode_offset(ino)) != 0
 }
 
+// Bit n of the inode bitmap is what it has to be; `map` is its sector, and `table` that of the inode, if there is such an inode.
+fn is_right_bit(geometry: Geometry, map: &[u8; 512], table: &[u8; 512], n: u32) -> bool
+    ensures { (m : SectorMap) → map.now ≡ m (geometry.inode_bitmap + n / 4096) → IsTableSector geometry m n table.now
+        → IsTrue result ↔ IsBit geometry m n }
+{
+    has_bit(map, n) == is_taken(geometry, table, n)
+}
+
 // The sector of the inode bitmap in which bit n stands: `map` has it, and is read again only where n is the sector's first bit.
 fn read_map<D: Disk>(disk: &mut D, opened: &Opened, n: u32, map: &mut [u8; 512]) -> Checked<()>
     requires opened { BeginsWith (D.state disk.old) opened.now.geometry opened.now.area opened.now.commit }
@@ -75,7 +83,7 @@ pub(crate) fn inode_bits<D: Disk>(disk: &mut D, opened: &Opened) -> Checked<()>
     for n in 0..SECTOR_BITS * (opened.geometry.block_bitmap - opened.geometry.inode_bitmap) {
         read_map(disk, opened, n, &mut map)?;
         read_table(disk, opened, n, &mut table)?;
-        if has_bit(&map, n) != is_taken(opened.geometry, &table, n) {
+        if !is_right_bit(opened.geometry, &map, &table, n) {
             return Err(CheckFault::Found(Finding {
                 rule: INODE_BITS,
                 at: n,

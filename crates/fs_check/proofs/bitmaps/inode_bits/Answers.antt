@@ -31,21 +31,13 @@ read_table-requires-clause-kept g c = λ inside.
 
 pub loop-n-preserved : goal.loop-n-preserved
 loop-n-preserved g c =
-    let read = c.in_ok-read_map.ensures in
-    let more = c.in_ok-read_table.ensures in
-    next_bits (g.D.Disk.state c.args.disk.now) (g.D.Disk.state c.loop-n.disk) (g.D.Disk.state c.read_map.new.disk) (g.D.Disk.state c.read_table.new.disk)
-    c.args.opened.now.geometry c.loop-n.n c.loop-n.map c.loop-n.table c.read_map.new.map c.read_table.new.table c.has_bit.result c.is_taken.result
-    c.loop-n.invariant read.passed.reads more.passed.reads c.loop-n-test.true read.map more.table c.has_bit.ensures c.is_taken.ensures
-    c.if-has_bit-is_taken.false
+    next_bits c.is_right_bit.result c.loop-n.invariant c.in_ok-read_map.ensures.passed.reads c.in_ok-read_table.ensures.passed.reads
+    c.in_ok-read_map.ensures.map c.in_ok-read_table.ensures.table c.is_right_bit.ensures c.if-not-is_right_bit.false
 
-pub returns-then-has_bit-is_taken-clause-passed : goal.returns-then-has_bit-is_taken-clause-passed
-returns-then-has_bit-is_taken-clause-passed g c =
-    let read = c.in_ok-read_map.ensures in
-    let more = c.in_ok-read_table.ensures in
-    wrong_bit (g.D.Disk.state c.args.disk.now) (g.D.Disk.state c.loop-n.disk) (g.D.Disk.state c.read_map.new.disk) (g.D.Disk.state c.read_table.new.disk)
-    c.args.opened.now.geometry c.loop-n.n c.loop-n.map c.loop-n.table c.read_map.new.map c.read_table.new.table c.has_bit.result c.is_taken.result
-    c.loop-n.invariant read.passed.reads more.passed.reads c.loop-n-test.true read.map more.table c.has_bit.ensures c.is_taken.ensures
-    c.if-has_bit-is_taken.true
+pub returns-then-not-is_right_bit-clause-passed : goal.returns-then-not-is_right_bit-clause-passed
+returns-then-not-is_right_bit-clause-passed g c =
+    wrong_bit c.is_right_bit.result c.loop-n.invariant c.in_ok-read_map.ensures.passed.reads c.in_ok-read_table.ensures.passed.reads
+    c.in_ok-read_map.ensures.map c.in_ok-read_table.ensures.table c.is_right_bit.ensures c.loop-n-test.true c.if-not-is_right_bit.true
 
 pub returns-clause-each : goal.returns-clause-each
 returns-clause-each g c = λ n lt. c.loop-n.invariant.good n (let past = c.loop-n-test.false in omega (arith, lt, past))
