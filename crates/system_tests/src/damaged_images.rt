@@ -2,7 +2,7 @@
 //! version 3 whose one file has a block that is found by all three: what a check finds where bytes of them are changed, or where they are
 //! cut; and that a mount agrees.
 
-ghost use Rattle.std.specs.Prelude.{◌+◌, ◌^◌, ◌≤◌, length};
+ghost use Rattle.std.specs.Prelude.{◌+◌, ◌^◌, ◌≤◌};
 
 use crate::new_disks::mount_fault;
 use fs_check::{CheckFault, Finding, check};
@@ -13,15 +13,46 @@ use std::alloc::{AllocError, Global};
 // Sectors of the disk; with 64 inodes its inode table begins at 137, and its data at 153.
 const SECTORS: u32 = 32768;
 
-// The first block of the file; from it on all sectors are zeros.
-const FIRST_BLOCK: u32 = 284;
+// A sector, an offset in it, and the bytes from there on.
+type Change = (usize, usize, &'static [u8]);
 
-fn beginning_with(bytes: &[u8]) -> [u8; 512]
-    requires { length bytes.now ≤ 512 }
-{
-    let mut content = [0; 512];
-    (&mut content[..bytes.len()]).copy_from_slice(bytes);
-    content
+// Inode 1, the root, whose block is sector 153: a directory of 128 bytes.
+const ROOT: &[u8] =
+    b"\x02\0\xed\x01\0\0\0\0\0\0\0\0\x01\0\0\0\x80\0\0\0\0\0\0\0\x01\0\0\0\0\0\0\0\0\0\0\0\x99\0\0\0";
+
+// Inode 2, a file of 8,460,288 bytes: blocks 0 to 11 are the sectors from 284 on, the indirect sector is 155, and the double indirect
+// one 154.
+const FILE: &[u8] =
+    b"\x01\0\xa4\x01\0\0\0\0\0\0\0\0\x01\0\0\0\0\x18\x81\0\0\0\0\0\0\0\0\0\0\0\0\0\0\0\0\0\
+    \x1c\x01\0\0\x1d\x01\0\0\x1e\x01\0\0\x1f\x01\0\0\x20\x01\0\0\x21\x01\0\0\
+    \x22\x01\0\0\x23\x01\0\0\x24\x01\0\0\x25\x01\0\0\x26\x01\0\0\x27\x01\0\0\
+    \x9b\0\0\0\x9a\0\0\0";
+
+// The image of version 2, but for the sectors of pointers. The sectors up to 16,807 are in use: those below the data, the root's block,
+// 130 sectors of pointers, and 16,524 blocks.
+static SECOND: [Change; 12] = [
+    // Version 2, 32,768 sectors, 64 inodes.
+    (0, 0, b"INOS\x02\0\0\0\0\x80\0\0\x40\0\0\0"),
+    (1, 0, b"INOJ"),
+    (128, 0, b"\x07\0\0\0\0\0\0\0"),
+    (128, 8, &[0xff; 504]),
+    (129, 0, &[0xff; 512]),
+    (130, 0, &[0xff; 512]),
+    (131, 0, &[0xff; 512]),
+    (132, 0, &[0xff; 512]),
+    (133, 0, &[0xff; 53]),
+    (137, 128, ROOT),
+    (137, 256, FILE),
+    // Inode 2 is `h`.
+    (153, 0, b"\x02\0\0\0\x01\0\0\0h"),
+];
+
+// The sectors of pointers: the double indirect sector, the indirect one, which has blocks 12 to 139, and the others with those from 140 on.
+fn write_numbers(image: &mut [[u8; 512]]) {
+    change(image, 154, 0, &numbers_from(156));
+    for k in 0..129 {
+        change(image, 155 + k, 0, &numbers_from(296 + 128 * k as u32));
+    }
 }
 
 // A sector of pointers: 128 numbers from this one on.
@@ -37,92 +68,37 @@ fn numbers_from(first: u32) -> [u8; 512]
     content
 }
 
-// Inode 1, the root, whose block is sector 153: a directory of 128 bytes.
-static ROOT: &[u8] =
-    b"\x02\0\xed\x01\0\0\0\0\0\0\0\0\x01\0\0\0\x80\0\0\0\0\0\0\0\x01\0\0\0\0\0\0\0\0\0\0\0\x99\0\0\0";
-
-// Inode 2, a file of 8,460,288 bytes: blocks 0 to 11 are the sectors from 284 on, the indirect sector is 155, and the double indirect
-// one 154.
-static FILE: &[u8] =
-    b"\x01\0\xa4\x01\0\0\0\0\0\0\0\0\x01\0\0\0\0\x18\x81\0\0\0\0\0\0\0\0\0\0\0\0\0\0\0\0\0\
-    \x1c\x01\0\0\x1d\x01\0\0\x1e\x01\0\0\x1f\x01\0\0\x20\x01\0\0\x21\x01\0\0\
-    \x22\x01\0\0\x23\x01\0\0\x24\x01\0\0\x25\x01\0\0\x26\x01\0\0\x27\x01\0\0\
-    \x9b\0\0\0\x9a\0\0\0";
-
-// What sector `s` holds. The sectors up to 16,807 are in use: those below the data, the root's block, 130 sectors of pointers, and
-// 16,524 blocks.
-fn content_of(s: u32) -> [u8; 512] {
-    let mut content = [0; 512];
-    match s {
-        // Version 2, 32,768 sectors, 64 inodes.
-        0 => content = beginning_with(b"INOS\x02\0\0\0\0\x80\0\0\x40\0\0\0"),
-        1 => content = beginning_with(b"INOJ"),
-        128 => {
-            content.fill(0xff);
-            (&mut content[..8]).copy_from_slice(b"\x07\0\0\0\0\0\0\0");
-        }
-        129..=132 => content.fill(0xff),
-        133 => (&mut content[..53]).fill(0xff),
-        137 => {
-            (&mut content[128..128 + ROOT.len()]).copy_from_slice(ROOT);
-            (&mut content[256..256 + FILE.len()]).copy_from_slice(FILE);
-        }
-        // Inode 2 is `h`.
-        153 => content = beginning_with(b"\x02\0\0\0\x01\0\0\0h"),
-        154 => content = numbers_from(156),
-        // The indirect sector has blocks 12 to 139, and the others those from 140 on.
-        155..=283 => content = numbers_from(296 + 128 * (s - 155)),
-        _ => {}
-    }
-    content
-}
-
 // Sectors of the disk of version 3; with 64 inodes its inode table begins at 514, and its data at 530.
 const THIRD_SECTORS: u32 = 2048;
 
-// The first sector behind those in use.
-const THIRD_END: u32 = 535;
-
 // Inode 1, the root, whose block is sector 530: a directory of 256 bytes.
-static THIRD_ROOT: &[u8] =
+const THIRD_ROOT: &[u8] =
     b"\x02\0\xed\x01\0\0\0\0\0\0\0\0\x01\0\0\0\0\x01\0\0\0\0\0\0\x01\0\0\0\0\0\0\0\0\0\0\0\x12\x02\0\0";
 
-// Inode 2, a file of 8,460,289 bytes, of which only the last is kept: its triple indirect sector is 531.
-static THIRD_FILE: &[u8] = b"\x01\0\xa4\x01\0\0\0\0\0\0\0\0\x01\0\0\0\x01\x18\x81\0";
-
-static TRIPLE_INDIRECT: &[u8] = b"\x13\x02\0\0";
-
-// What sector `s` of the disk of version 3 holds.
-fn third_content_of(s: u32) -> [u8; 512] {
-    let mut content = [0; 512];
-    match s {
-        0 => content = beginning_with(b"INOS\x03\0\0\0\0\x08\0\0\x40\0\0\0\x01"),
-        1 => content = beginning_with(b"INOJ"),
-        512 => {
-            content.fill(0xff);
-            (&mut content[..8]).copy_from_slice(b"\x07\0\0\0\0\0\0\0");
-        }
-        513 => {
-            (&mut content[..66]).fill(0xff);
-            content[66] = 0x7f;
-            (&mut content[256..]).fill(0xff);
-        }
-        514 => {
-            (&mut content[128..128 + THIRD_ROOT.len()]).copy_from_slice(THIRD_ROOT);
-            (&mut content[256..256 + THIRD_FILE.len()]).copy_from_slice(THIRD_FILE);
-            (&mut content[348..352]).copy_from_slice(TRIPLE_INDIRECT);
-        }
-        // Inode 2 is `f`.
-        530 => content = beginning_with(b"\x02\0\0\0\x01\0\0\0f"),
-        // Sectors of pointers of the third, the second and the first level, and block 16,524.
-        531 => content = beginning_with(b"\x14\x02\0\0"),
-        532 => content = beginning_with(b"\x15\x02\0\0"),
-        533 => content = beginning_with(b"\x16\x02\0\0"),
-        534 => content = beginning_with(b"c"),
-        _ => {}
-    }
-    content
-}
+// The image of version 3. Inode 2 is a file of 8,460,289 bytes, of which only the last is kept: its triple indirect sector is 531.
+static THIRD: [Change; 15] = [
+    (0, 0, b"INOS\x03\0\0\0\0\x08\0\0\x40\0\0\0\x01"),
+    (1, 0, b"INOJ"),
+    (512, 0, b"\x07\0\0\0\0\0\0\0"),
+    (512, 8, &[0xff; 504]),
+    (513, 0, &[0xff; 66]),
+    (513, 66, b"\x7f"),
+    (513, 256, &[0xff; 256]),
+    (514, 128, THIRD_ROOT),
+    (
+        514,
+        256,
+        b"\x01\0\xa4\x01\0\0\0\0\0\0\0\0\x01\0\0\0\x01\x18\x81\0",
+    ),
+    (514, 348, b"\x13\x02\0\0"),
+    // Inode 2 is `f`.
+    (530, 0, b"\x02\0\0\0\x01\0\0\0f"),
+    // Sectors of pointers of the third, the second and the first level, and block 16,524.
+    (531, 0, b"\x14\x02\0\0"),
+    (532, 0, b"\x15\x02\0\0"),
+    (533, 0, b"\x16\x02\0\0"),
+    (534, 0, b"c"),
+];
 
 // Which image.
 #[derive(Clone, Copy)]
@@ -130,26 +106,6 @@ enum Version {
     Two,
     Three,
 }
-
-impl Version {
-    fn content_of(self, s: u32) -> [u8; 512] {
-        match self {
-            Version::Two => content_of(s),
-            Version::Three => third_content_of(s),
-        }
-    }
-
-    // From this sector on all are zeros.
-    fn end(self) -> u32 {
-        match self {
-            Version::Two => FIRST_BLOCK,
-            Version::Three => THIRD_END,
-        }
-    }
-}
-
-// A sector, an offset in it, and the bytes from there on.
-type Change = (usize, usize, &'static [u8]);
 
 // What doesn't lie in the image is left.
 fn change(image: &mut [[u8; 512]], s: usize, at: usize, bytes: &[u8]) {
@@ -159,12 +115,19 @@ fn change(image: &mut [[u8; 512]], s: usize, at: usize, bytes: &[u8]) {
     (&mut image[s][at..at + bytes.len()]).copy_from_slice(bytes);
 }
 
-fn write_image(image: &mut [[u8; 512]], version: Version, changes: &[Change]) {
-    for s in 0..version.end() {
-        change(image, s as usize, 0, &version.content_of(s));
-    }
+fn change_all(image: &mut [[u8; 512]], changes: &[Change]) {
     for &(s, at, bytes) in changes {
         change(image, s, at, bytes);
+    }
+}
+
+fn write_image(image: &mut [[u8; 512]], version: Version) {
+    match version {
+        Version::Two => {
+            change_all(image, &SECOND);
+            write_numbers(image);
+        }
+        Version::Three => change_all(image, &THIRD),
     }
 }
 
@@ -177,7 +140,8 @@ fn changed_disk(
 ) -> Result<MemDisk, AllocError> {
     let mut image = Vec::new(alloc);
     image.resize(sectors as usize, [0; 512])?;
-    write_image(&mut image, version, changes);
+    write_image(&mut image, version);
+    change_all(&mut image, changes);
     MemDisk::from_sectors(alloc, image)
 }
 

@@ -1,48 +1,31 @@
 //! Each law can be called.
+use crate::mounts::call_of;
 use fs_model::{
-    Call, Flags, Path, a_finding_is_the_first, a_new_disk_stands_for_an_empty_root,
-    a_sync_leaves_one_tree, an_image_stands_for_one_tree, call_is_in_range, decision_is_unique,
-    finds_are_there, first_refusal_is_least, fitting_states_drop_nothing,
-    free_sectors_are_within_bounds, kinds_agree, no_demand_is_an_io_error, numbers_are_counts,
-    one_node_changes, pruning_keeps_trees, rewriting_keeps_names, rules_say_what_stands,
-    runs_of_moves, runs_of_writes, same_process_stays, some_image_stands_for_a_tree,
+    a_finding_is_the_first, a_new_disk_stands_for_an_empty_root, a_sync_leaves_one_tree,
+    an_image_stands_for_one_tree, call_is_in_range, decision_is_unique, finds_are_there,
+    first_refusal_is_least, fitting_states_drop_nothing, free_sectors_are_within_bounds,
+    kinds_agree, no_demand_is_an_io_error, numbers_are_counts, one_node_changes,
+    pruning_keeps_trees, rewriting_keeps_names, rules_say_what_stands, runs_of_moves,
+    runs_of_writes, same_process_stays, some_image_stands_for_a_tree,
     standing_rests_on_what_is_used, steps_keep_states, unreadable_bytes_do_not_show,
 };
 use fs_system::{a_running_system_is_in_one_state, histories_are_runs, trees_are_sound};
 use sector_disk::{FuseDisk, MemDisk};
-use std::alloc::{AllocError, Global};
-use std::mem;
+use std::alloc::Global;
+use std::test::Fail;
 
-// The law on calls, of this one.
-fn law_on(call: Call) {
+// The law on calls, of that of a line.
+fn law_on(alloc: Global, line: &[u8]) -> Result<(), Fail> {
+    let call = call_of(alloc, line)?;
     call_is_in_range(&call);
-    mem::drop(call);
-}
-
-const READ_DIRECTORY: Flags = Flags {
-    read: true,
-    write: false,
-    create: false,
-    excl: false,
-    trunc: false,
-    append: false,
-    nofollow: false,
-    directory: true,
-};
-
-// The law on a call that opens the root to read it, and on one that renames.
-fn calls_are_in_range(alloc: Global) -> Result<(), AllocError> {
-    let root = Path::from_slice(alloc, b"/")?;
-    law_on(Call::Open(root, READ_DIRECTORY, 0));
-    let old = Path::from_slice(alloc, b"/a")?;
-    let new = Path::from_slice(alloc, b"/b")?;
-    law_on(Call::Rename { old, new });
+    call.discard();
     Ok(())
 }
 
 #[test]
-fn laws_of_the_model_do_nothing(rt: HostRuntime) {
-    assert!(rt; calls_are_in_range(rt.alloc()).is_ok());
+fn laws_of_the_model_do_nothing(rt: HostRuntime) -> Result<(), Fail> {
+    law_on(rt.alloc(), b"1 open / rd")?;
+    law_on(rt.alloc(), b"1 rename /a /b")?;
     a_finding_is_the_first();
     kinds_agree();
     no_demand_is_an_io_error();
@@ -66,6 +49,7 @@ fn laws_of_the_model_do_nothing(rt: HostRuntime) {
     standing_rests_on_what_is_used();
     steps_keep_states();
     unreadable_bytes_do_not_show();
+    Ok(())
 }
 
 #[test]

@@ -12,11 +12,11 @@ mod methods;
 #[cfg(test)]
 mod model_values;
 #[cfg(test)]
+mod mounts;
+#[cfg(test)]
 mod new_disks;
 #[cfg(test)]
 mod processes;
-#[cfg(test)]
-mod report;
 #[cfg(test)]
 mod script_runs;
 #[cfg(test)]

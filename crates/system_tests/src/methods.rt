@@ -1,24 +1,15 @@
 //! What no clause says of a file system's methods: that they succeed, and that a halted one leaves its disk alone. Calls
 //! and their replies are shown by the scripts of the shell.
 
+use crate::mounts::{TestDisk, call_of, new_fs};
 use fs_cred::{Cred, Errno, Refusal};
-use fs_images::mkfs;
 use fs_layout::Version;
-use fs_model::{Bytes, Call, Flags, Path, Reply};
+use fs_model::{Bytes, Call, Reply};
 use fs_system::Fs;
-use sector_disk::{Disk, FuseDisk, MemDisk};
+use sector_disk::Disk;
 use std::alloc::Global;
 use std::mem;
 use std::test::Fail;
-
-// A new file system of 1,024 sectors with 64 inodes, on any disk of that size.
-fn new_fs<D: Disk + Drop>(alloc: Global, mut disk: D) -> Result<Fs<D>, Fail> {
-    mkfs(&mut disk, Version::Two, 64)?;
-    match Fs::mount(alloc, disk) {
-        Ok(fs) => Ok(fs),
-        Err(_) => Err(Fail::new("not mounted")),
-    }
-}
 
 // ---- what is answered
 
@@ -57,39 +48,27 @@ fn told_space(free: Result<(u32, u32), Errno>) -> Told {
     }
 }
 
-fn spawned<D: Disk + Drop>(alloc: Global, fs: &mut Fs<D>) -> Result<Told, Fail> {
+fn spawned(alloc: Global, fs: &mut Fs<TestDisk>) -> Result<Told, Fail> {
     let cred = Cred::new(alloc, 0, 0, &[])?;
     Ok(told_pid(fs.spawn(cred)))
 }
 
 // What process 1 is told that makes a call.
-fn called<D: Disk + Drop>(fs: &mut Fs<D>, call: Call) -> Told {
+fn called(fs: &mut Fs<TestDisk>, call: Call) -> Told {
     let reply = fs.call(1, &call);
-    mem::drop(call);
+    call.discard();
     let told = told(&reply);
-    mem::drop(reply);
+    reply.discard();
     told
 }
 
 // Process 1 makes and opens a file for writing.
-fn opened<D: Disk + Drop>(alloc: Global, fs: &mut Fs<D>) -> Result<Told, Fail> {
-    let flags = Flags {
-        read: false,
-        write: true,
-        create: true,
-        excl: true,
-        trunc: false,
-        append: false,
-        nofollow: false,
-        directory: false,
-    };
-    let call = Call::Open(Path::from_slice(alloc, b"/file")?, flags, 0o644);
-    Ok(called(fs, call))
+fn opened(alloc: Global, fs: &mut Fs<TestDisk>) -> Result<Told, Fail> {
+    Ok(called(fs, call_of(alloc, b"1 open /file wcx 0644")?))
 }
 
-fn written<D: Disk + Drop>(alloc: Global, fs: &mut Fs<D>) -> Result<Told, Fail> {
-    let call = Call::Write(0, Bytes::from_slice(alloc, b"abc")?);
-    Ok(called(fs, call))
+fn written(alloc: Global, fs: &mut Fs<TestDisk>) -> Result<Told, Fail> {
+    Ok(called(fs, call_of(alloc, b"1 write 0 abc")?))
 }
 
 // ---- each method
@@ -97,7 +76,7 @@ fn written<D: Disk + Drop>(alloc: Global, fs: &mut Fs<D>) -> Result<Told, Fail> 
 // spawn, open, write, fsync, sync, statfs, exit, and another spawn.
 type Answers = [Told; 8];
 
-fn answers<D: Disk + Drop>(alloc: Global, fs: &mut Fs<D>) -> Result<Answers, Fail> {
+fn answers(alloc: Global, fs: &mut Fs<TestDisk>) -> Result<Answers, Fail> {
     let first = spawned(alloc, fs)?;
     let opened = opened(alloc, fs)?;
     let written = written(alloc, fs)?;
@@ -113,8 +92,9 @@ fn answers<D: Disk + Drop>(alloc: Global, fs: &mut Fs<D>) -> Result<Answers, Fai
 // What each method answers; then what an unmount tells, and how often the disk has failed.
 type Seen = (Answers, Told, u64);
 
-fn seen<D: Disk + Drop>(alloc: Global, disk: D) -> Result<Seen, Fail> {
-    let mut fs = new_fs(alloc, disk)?;
+// What is seen where so many calls of the disk pass.
+fn seen(alloc: Global, calls: u64) -> Result<Seen, Fail> {
+    let mut fs = new_fs(alloc, Version::Two, calls)?;
     let answers = answers(alloc, &mut fs);
     fs.tell_state();
     let (disk, errno) = fs.unmount();
@@ -135,11 +115,6 @@ const HALTED: Answers = [Ok(1), Ok(0), Ok(3), EIO, EIO, EIO, EIO, EIO];
 
 const UNREAD: Answers = [Ok(1), EIO, Err(9), Err(9), Ok(0), EIO, Ok(0), Ok(1)];
 
-// What is seen where so many calls of the disk pass.
-fn seen_with(alloc: Global, calls: u64) -> Result<Seen, Fail> {
-    seen(alloc, FuseDisk::new(MemDisk::new(alloc, 1024)?, calls))
-}
-
 #[test]
 fn a_halted_one_calls_its_disk_no_more(rt: HostRuntime) -> Result<(), Fail> {
     // How many calls of the disk pass, and what is seen. mkfs and mount make 80 calls. The file is made and written with the two
@@ -150,25 +125,21 @@ fn a_halted_one_calls_its_disk_no_more(rt: HostRuntime) -> Result<(), Fail> {
         (82, (HALTED, EIO, 1)),
         (85, (HALTED, EIO, 1)),
     ] {
-        let found = seen_with(rt.alloc(), calls)?;
+        let found = seen(rt.alloc(), calls)?;
         assert!(rt; found == wanted, "{calls}: {found:?}");
     }
     Ok(())
 }
 
 // What process 1 or another is answered that is put into these directories. The root is inode 1, and a file 2.
-fn put<D: Disk + Drop>(
-    alloc: Global,
-    fs: &mut Fs<D>,
-    row: (usize, u32, u32),
-) -> Result<Told, Fail> {
+fn put(alloc: Global, fs: &mut Fs<TestDisk>, row: (usize, u32, u32)) -> Result<Told, Fail> {
     let _pid = spawned(alloc, fs)?;
     let _fd = opened(alloc, fs)?;
     Ok(told_done(fs.enter(row.0, row.1, row.2)))
 }
 
 fn entered(alloc: Global, row: (usize, u32, u32)) -> Result<Told, Fail> {
-    let mut fs = new_fs(alloc, MemDisk::new(alloc, 1024)?)?;
+    let mut fs = new_fs(alloc, Version::Two, u64::MAX)?;
     let told = put(alloc, &mut fs, row);
     mem::drop(fs.unmount());
     told
@@ -194,17 +165,13 @@ fn a_process_is_put_into_directories(rt: HostRuntime) -> Result<(), Fail> {
 }
 
 // What process 1 is told that writes so many bytes behind the others.
-fn appended<D: Disk + Drop>(alloc: Global, fs: &mut Fs<D>, len: usize) -> Result<Told, Fail> {
+fn appended(alloc: Global, fs: &mut Fs<TestDisk>, len: usize) -> Result<Told, Fail> {
     let bytes = vec![in alloc; 1; len]?;
     Ok(called(fs, Call::Write(0, Bytes::new(bytes))))
 }
 
 // How many such writes are whole, and what the next one is told.
-fn filled<D: Disk + Drop>(
-    alloc: Global,
-    fs: &mut Fs<D>,
-    len: usize,
-) -> Result<(usize, Told), Fail> {
+fn filled(alloc: Global, fs: &mut Fs<TestDisk>, len: usize) -> Result<(usize, Told), Fail> {
     for count in 0..100 {
         let told = appended(alloc, fs, len)?;
         if told != Ok(len) {
@@ -215,7 +182,7 @@ fn filled<D: Disk + Drop>(
 }
 
 // What a write of more than a run is told; and then of runs, and of moves, until there is no space for one.
-fn fills<D: Disk + Drop>(alloc: Global, fs: &mut Fs<D>) -> Result<[(usize, Told); 3], Fail> {
+fn fills(alloc: Global, fs: &mut Fs<TestDisk>) -> Result<[(usize, Told); 3], Fail> {
     let _pid = spawned(alloc, fs)?;
     let _fd = opened(alloc, fs)?;
     let first = appended(alloc, fs, 16_385)?;
@@ -225,7 +192,7 @@ fn fills<D: Disk + Drop>(alloc: Global, fs: &mut Fs<D>) -> Result<[(usize, Told)
 }
 
 fn filled_by_runs(alloc: Global) -> Result<[(usize, Told); 3], Fail> {
-    let mut fs = new_fs(alloc, MemDisk::new(alloc, 1024)?)?;
+    let mut fs = new_fs(alloc, Version::Two, u64::MAX)?;
     let found = fills(alloc, &mut fs);
     mem::drop(fs.unmount());
     found

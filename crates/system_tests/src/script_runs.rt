@@ -1,27 +1,13 @@
 //! Runs over readers and writers of several kinds. What file systems answer to lines is tried by the program `player`.
 
-use crate::report::push_other_text;
-use fs_images::mkfs;
+use crate::mounts::{TestDisk, new_fs};
 use fs_layout::Version;
 use fs_shell::{Count, RunFault, Watched, run};
 use fs_system::Fs;
-use sector_disk::MemDisk;
 use std::alloc::{AllocError, Global};
 use std::io::{self, ErrorKind, Read, Write};
 use std::mem;
 use std::test::Fail;
-
-// ---- file systems
-
-// An empty file system in memory.
-fn mounted(alloc: Global) -> Result<Fs<MemDisk>, Fail> {
-    let mut disk = MemDisk::new(alloc, 1024)?;
-    mkfs(&mut disk, Version::Two, 64)?;
-    match Fs::mount(alloc, disk) {
-        Ok(fs) => Ok(fs),
-        Err((fault, _)) => Err(fault)?,
-    }
-}
 
 // ---- readers and writers
 
@@ -126,30 +112,47 @@ fn ran(
     script: Source<'_>,
     written: &mut Vec<u8>,
 ) -> Result<Result<Count, RunFault>, Fail> {
-    let mut fs = mounted(alloc)?;
+    let mut fs = new_fs(alloc, Version::Two, u64::MAX)?;
     let outcome = run(
         alloc,
         &mut Watched::new(script),
         &mut Watched::new(written),
         &mut fs,
     );
-    mem::drop(fs);
+    mem::drop(fs.unmount());
     Ok(outcome)
 }
 
-// Adds to the report where a script on an empty file system comes to something other than is wanted.
-fn expect_run(
+// Adds what was written, and what the run came to.
+fn push_seen(
     alloc: Global,
-    report: &mut String,
-    script: Source<'_>,
-    wanted: &str,
-) -> Result<(), Fail> {
+    seen: &mut String,
+    written: &[u8],
+    outcome: Result<Count, RunFault>,
+) -> Result<(), AllocError> {
+    let text = String::from_utf8_lossy(alloc, written)?;
+    seen.push_str(text.as_str())?;
+    push_outcome(seen, outcome)
+}
+
+// Adds what a script on an empty file system comes to.
+fn push_run(alloc: Global, seen: &mut String, script: Source<'_>) -> Result<(), Fail> {
     let mut written = Vec::new(alloc);
-    let outcome = ran(alloc, script, &mut written)?;
-    let mut seen = String::from_utf8_lossy(alloc, &written)?;
-    push_outcome(&mut seen, outcome)?;
-    push_other_text(report, wanted, seen, wanted)?;
-    Ok(())
+    let pushed = match ran(alloc, script, &mut written) {
+        Ok(outcome) => Ok(push_seen(alloc, seen, &written, outcome)),
+        Err(fail) => Err(fail),
+    };
+    mem::drop(written);
+    Ok(pushed??)
+}
+
+fn comes_to(alloc: Global, script: Source<'_>, wanted: &str) -> Result<bool, Fail> {
+    let mut seen = String::new(alloc);
+    let pushed = push_run(alloc, &mut seen, script);
+    let is_wanted = seen.as_str() == wanted;
+    mem::drop(seen);
+    pushed?;
+    Ok(is_wanted)
 }
 
 // What a reader gives, and what is seen.
@@ -241,18 +244,20 @@ static SOURCES: [(Source<'static>, &str); 7] = [
     ),
 ];
 
-fn expect_sources(alloc: Global, report: &mut String) -> Result<(), Fail> {
-    for (source, replies) in &SOURCES {
-        expect_run(alloc, report, *source, replies)?;
+// The first text that isn't what its script comes to.
+fn first_other(alloc: Global) -> Result<Option<&'static str>, Fail> {
+    for (source, wanted) in &SOURCES {
+        if !comes_to(alloc, *source, wanted)? {
+            return Ok(Some(*wanted));
+        }
     }
-    Ok(())
+    Ok(None)
 }
 
 #[test]
 fn readers_get_their_replies(rt: HostRuntime) -> Result<(), Fail> {
-    let mut report = String::new(rt.alloc());
-    expect_sources(rt.alloc(), &mut report)?;
-    assert!(rt; report.is_empty(), "{report}");
+    let other = first_other(rt.alloc())?;
+    assert!(rt; other == None, "{other:?}");
     Ok(())
 }
 
@@ -265,7 +270,7 @@ fn push_run_into(
     seen: &mut String,
     script: &[u8],
     sink: Sink,
-    fs: &mut Fs<MemDisk>,
+    fs: &mut Fs<TestDisk>,
 ) -> Result<(), AllocError> {
     let mut sink = sink;
     let mut writer = Watched::new(&mut sink);
@@ -296,7 +301,7 @@ static SINKS: [(&[u8], Sink); 5] = [
 ];
 
 // Adds what the scripts come to, one after another on one file system.
-fn push_runs(alloc: Global, seen: &mut String, fs: &mut Fs<MemDisk>) -> Result<(), AllocError> {
+fn push_runs(alloc: Global, seen: &mut String, fs: &mut Fs<TestDisk>) -> Result<(), AllocError> {
     for (script, sink) in &SINKS {
         push_run_into(alloc, seen, script, *sink, fs)?;
     }
@@ -305,25 +310,30 @@ fn push_runs(alloc: Global, seen: &mut String, fs: &mut Fs<MemDisk>) -> Result<(
 
 // Adds what the scripts come to on a new file system.
 fn push_writers(alloc: Global, seen: &mut String) -> Result<(), Fail> {
-    let mut fs = mounted(alloc)?;
+    let mut fs = new_fs(alloc, Version::Two, u64::MAX)?;
     let pushed = push_runs(alloc, seen, &mut fs);
-    mem::drop(fs);
+    mem::drop(fs.unmount());
     Ok(pushed?)
+}
+
+static WRITTEN: &str = "52 Some(52) false 2 lines, 0 faults\n\
+                        0 Some(0) false 1 lines, 0 faults\n\
+                        0 None true WriteFault\n\
+                        75 Some(75) false 1 lines, 0 faults\n\
+                        85 None true WriteFault\n";
+
+// Whether the scripts come to that.
+fn flushes(alloc: Global) -> Result<bool, Fail> {
+    let mut seen = String::new(alloc);
+    let pushed = push_writers(alloc, &mut seen);
+    let is_wanted = seen.as_str() == WRITTEN;
+    mem::drop(seen);
+    pushed?;
+    Ok(is_wanted)
 }
 
 #[test]
 fn a_run_flushes_its_writer(rt: HostRuntime) -> Result<(), Fail> {
-    let alloc = rt.alloc();
-    let mut seen = String::new(alloc);
-    push_writers(alloc, &mut seen)?;
-    assert!(rt;
-        seen.as_str()
-            == "52 Some(52) false 2 lines, 0 faults\n\
-                0 Some(0) false 1 lines, 0 faults\n\
-                0 None true WriteFault\n\
-                75 Some(75) false 1 lines, 0 faults\n\
-                85 None true WriteFault\n",
-        "{seen}"
-    );
+    assert!(rt; flushes(rt.alloc())?);
     Ok(())
 }

@@ -1,10 +1,9 @@
 //! Times: which of them each call moves, that they last in version 3, and that older versions have none.
 
-use fs_images::mkfs;
+use crate::mounts::{TestDisk, mount, new_fs};
 use fs_layout::Version;
 use fs_lines::{Line, parse_line};
 use fs_system::Fs;
-use sector_disk::MemDisk;
 use std::alloc::Global;
 use std::mem;
 use std::test::Fail;
@@ -15,22 +14,8 @@ type Times = [u64; 3];
 // Nothing stands there.
 const ABSENT: Times = [u64::MAX; 3];
 
-fn remounted(alloc: Global, disk: MemDisk) -> Result<Fs<MemDisk>, Fail> {
-    match Fs::mount(alloc, disk) {
-        Ok(fs) => Ok(fs),
-        Err((fault, _)) => Err(fault)?,
-    }
-}
-
-// An empty file system.
-fn mounted(alloc: Global, version: Version) -> Result<Fs<MemDisk>, Fail> {
-    let mut disk = MemDisk::new(alloc, 1024)?;
-    mkfs(&mut disk, version, 64)?;
-    remounted(alloc, disk)
-}
-
 // What is told of the times of an inode, once those that are given are set.
-fn stamped(fs: &mut Fs<MemDisk>, ino: u32, atime: Option<u64>, ctime: Option<u64>) -> Times {
+fn stamped(fs: &mut Fs<TestDisk>, ino: u32, atime: Option<u64>, ctime: Option<u64>) -> Times {
     match fs.stamp(ino, atime, None, ctime) {
         Ok(stamps) => [stamps.atime, stamps.mtime, stamps.ctime],
         Err(_) => ABSENT,
@@ -38,12 +23,12 @@ fn stamped(fs: &mut Fs<MemDisk>, ino: u32, atime: Option<u64>, ctime: Option<u64
 }
 
 // The times of the root, of the directory `/d` and of the file that is made in it.
-fn seen(fs: &mut Fs<MemDisk>) -> [Times; 3] {
+fn seen(fs: &mut Fs<TestDisk>) -> [Times; 3] {
     [1, 2, 3].map(|ino| stamped(fs, ino, None, None))
 }
 
 // What a line asks for happens at this time.
-fn perform(alloc: Global, fs: &mut Fs<MemDisk>, time: u64, line: &str) {
+fn perform(alloc: Global, fs: &mut Fs<TestDisk>, time: u64, line: &str) {
     let _told = fs.tell_time(time);
     if let Ok(Line::Event(event)) = parse_line(alloc, line.as_bytes()) {
         fs.answer(&event).discard();
@@ -136,34 +121,57 @@ static ROWS: [(u64, &str, [Times; 3]); 18] = [
 // What a new mount shows: of the file without a name nothing.
 static LASTING: [Times; 3] = [[0, 150, 150], [1, 150, 3], ABSENT];
 
+// The first row after which other times are seen, and those.
+fn first_other(alloc: Global, fs: &mut Fs<TestDisk>) -> Option<(&'static str, [Times; 3])> {
+    for &(time, line, wanted) in &ROWS {
+        perform(alloc, fs, time, line);
+        let found = seen(fs);
+        if found != wanted {
+            return Some((line, found));
+        }
+    }
+    None
+}
+
+// What a mount of what an unmount left shows.
+fn seen_again(alloc: Global, fs: Fs<TestDisk>) -> Result<[Times; 3], Fail> {
+    let (disk, _) = fs.unmount();
+    let mut fs = mount(alloc, disk)?;
+    let found = seen(&mut fs);
+    mem::drop(fs.unmount());
+    Ok(found)
+}
+
+// The first row that moves other times, what is set then, and what lasts.
+fn kept(alloc: Global) -> Result<(Option<(&'static str, [Times; 3])>, Times, [Times; 3]), Fail> {
+    let mut fs = new_fs(alloc, Version::Three, u64::MAX)?;
+    let other = first_other(alloc, &mut fs);
+    let set = stamped(&mut fs, 2, Some(1), Some(3));
+    Ok((other, set, seen_again(alloc, fs)?))
+}
+
 #[test]
 fn each_call_moves_its_times_and_they_last(rt: HostRuntime) -> Result<(), Fail> {
-    let mut fs = mounted(rt.alloc(), Version::Three)?;
-    for &(time, line, wanted) in &ROWS {
-        perform(rt.alloc(), &mut fs, time, line);
-        let found = seen(&mut fs);
-        assert!(rt; found == wanted, "{line}: {found:?}");
+    let found = kept(rt.alloc())?;
+    assert!(rt; found == (None, LASTING[1], LASTING), "{found:?}");
+    Ok(())
+}
+
+// What is set in version 2 after all rows, and what is seen.
+fn none_kept(alloc: Global) -> Result<(Times, [Times; 3]), Fail> {
+    let mut fs = new_fs(alloc, Version::Two, u64::MAX)?;
+    for &(time, line, _) in &ROWS {
+        perform(alloc, &mut fs, time, line);
     }
     let set = stamped(&mut fs, 2, Some(1), Some(3));
-    assert!(rt; set == LASTING[1], "{set:?}");
-    let (disk, _) = fs.unmount();
-    let mut fs = remounted(rt.alloc(), disk)?;
     let found = seen(&mut fs);
-    mem::drop(fs);
-    assert!(rt; found == LASTING, "{found:?}");
-    Ok(())
+    mem::drop(fs.unmount());
+    Ok((set, found))
 }
 
 #[test]
 fn older_versions_have_no_times(rt: HostRuntime) -> Result<(), Fail> {
-    let mut fs = mounted(rt.alloc(), Version::Two)?;
-    for &(time, line, _) in &ROWS {
-        perform(rt.alloc(), &mut fs, time, line);
-    }
-    let set = stamped(&mut fs, 2, Some(1), Some(3));
-    let found = seen(&mut fs);
-    mem::drop(fs);
-    assert!(rt; set == [0; 3], "{set:?}");
-    assert!(rt; found == [[0; 3]; 3], "{found:?}");
+    let found = none_kept(rt.alloc())?;
+    assert!(rt; found == ([0; 3], [[0; 3]; 3]), "{found:?}");
     Ok(())
 }
