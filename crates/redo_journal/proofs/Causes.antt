@@ -3,7 +3,7 @@ use Rattle.std.proofs.Common.{◌≡◌, ⊎_elim, inl, inr, ◌≤◌, arith, r
 use Rattle.std.proofs.lemmas.Bool.{true≢false}
 use Rattle.std.proofs.lemmas.Result.{on_err_weaker, on_ok_weaker}
 use Rattle.std.specs.Prelude.{Result, Ok, Err, IsErr}
-use Rattle.sector_disk.specs.Disk.{DiskState, HasCause, HasFailedToWrite, HasWriteCause}
+use Rattle.sector_disk.specs.Disk.{DiskState, CountsWrites, HasCause, HasFailedToWrite, HasWriteCause}
 use Rattle.sector_disk.proofs.Moments.{failed_later}
 
 -- ---- without a call
@@ -63,3 +63,23 @@ told_at_ok is = record { later = is.later; fault = tt; quiet = is.quiet }
 
 pub told_at_err : {A F T E : Type 0} {e : F} {fault : E} {old new : DiskState} → HasWriteCause {T = A} old new (Err e) → HasWriteCause {T = T} old new (Err fault)
 told_at_err is = record { later = is.later; fault = is.fault; quiet = tt }
+
+-- ---- calls in a loop, all of which went well
+pub record WentWell (old new : DiskState) : Type 0 where
+  pub failures : old.failures ≤ new.failures
+  pub quiet : new.failed_writes ≡ old.failed_writes
+
+pub well_none : {disk : DiskState} → WentWell disk disk
+well_none = record { failures = omega arith; quiet = refl }
+
+pub well_more : {old mid new : DiskState} → WentWell old mid → mid.failures ≤ new.failures → new.failed_writes ≡ mid.failed_writes → WentWell old new
+well_more so_far later quiet = record { failures = omega (arith, so_far.failures, later); quiet = quiet ∙ so_far.quiet }
+
+pub well_cause : {T E : Type 0} {x : T} {old new : DiskState} → WentWell old new → HasCause {E = E} old new (Ok x)
+well_cause well = record { later = well.failures; fault = tt }
+
+pub well_told : {T E : Type 0} {x : T} {old new : DiskState} → WentWell old new → HasWriteCause {E = E} old new (Ok x)
+well_told well = record { later = omega (arith, well.quiet); fault = tt; quiet = well.quiet }
+
+pub well_counted : {T E : Type 0} {x : T} {old new : DiskState} → WentWell old new → CountsWrites {E = E} old new (Ok x)
+well_counted well = record { later = omega (arith, well.quiet); quiet = well.quiet }

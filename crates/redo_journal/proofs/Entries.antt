@@ -1,6 +1,14 @@
 -- The sectors of a batch's entries, and their contents.
-use Rattle.std.proofs.Common.{◌≡◌, ℕ, ◌<◌, ◌≤◌, List, [], length, get_or, arith, sym, ◌∙◌, ap}
+use Rattle.std.proofs.Common.{◌≡◌, ℕ, ◌<◌, ◌≤◌, Bor, Iter, List, [], length, get_or, arith, sym, ◌∙◌, ap}
+use Rattle.std.proofs.iter.Yields.{fronts}
+use Rattle.std.proofs.lemmas.Iterator.{zips}
 use Rattle.std.proofs.lemmas.List.{get_or-map, length-map}
+use Rattle.std.proofs.lemmas.Slice.Zip.{zip_end, zip_turn}
+use Rattle.std.specs.Iterator.{Yields}
+use Rattle.std.specs.Iterator.Adapters.{zip_first, zip_second}
+use Rattle.std.specs.Prelude.{Option, Some, None}
+use Rattle.std.specs.Slice.Iter.{iter_rest}
+use Rattle.std.specs.declared.iter.Zip.{Zip}
 use Rattle.fs_layout.specs.Commit.{AreDistinct, AreTargets}
 use Rattle.fs_layout.specs.Header.{log_end}
 use Rattle.fs_layout.proofs.RecoveryLaw.{contains_at}
@@ -19,16 +27,28 @@ length-contents entries = length-map entries (λ e. e.1)
 pub content_is : (entries : List Entry) (k : ℕ) → k < length entries → get_or (contents entries) k [] ≡ content_at entries k
 content_is entries k lt = get_or-map (λ (e : Entry). e.1) entries k (0, []) [] lt
 
--- the entry whose sector and content are the next ones
-pub entry_is : (entries : List Entry) (ns : List ℕ) (bytes : List (List ℕ)) (i n : ℕ) (content : List ℕ) → ns ≡ targets entries → bytes ≡ contents entries
-    → (i < length ns) × (i < length bytes) × ((d : ℕ) → n ≡ get_or ns i d) × ((d : List ℕ) → content ≡ get_or bytes i d)
-    → (i < length entries) × (n ≡ target_at entries i) × (content ≡ content_at entries i)
-entry_is entries ns bytes i n content of_sectors of_contents turn =
-    let lt : i < length entries = omega (arith, turn.0, ap length of_sectors, length-targets entries) in (
-      lt,
-      turn.2 0 ∙ ap (λ (l : List ℕ). get_or l i 0) of_sectors ∙ target_is entries i lt,
-      turn.3 [] ∙ ap (λ (l : List (List ℕ)). get_or l i []) of_contents ∙ content_is entries i lt,
-    )
+-- ---- a loop over a batch's sectors beside its contents, which has gone over xs
+module _ {both s : Zip (Iter ℕ) (Iter (List ℕ))} {of_ns : Iter ℕ} {ns : List ℕ} (entries : List Entry) (bytes : List (List ℕ)) (xs : List (Bor ℕ × Bor (List ℕ))) (t u : Zip (Iter ℕ) (Iter (List ℕ))) (r : Option (Bor ℕ × Bor (List ℕ)))
+    (from : s ≡ both) (left : zip_first both ≡ of_ns) (first : iter_rest of_ns ≡ ns) (of_sectors : ns ≡ targets entries) (second : iter_rest (zip_second both) ≡ bytes) (of_contents : bytes ≡ contents entries)
+    (gone : Yields (zips fronts fronts) s xs t) (next : zips fronts fronts t r u) where
+  sectors_left : iter_rest (zip_first s) ≡ targets entries
+  sectors_left = ap (λ (z : Zip (Iter ℕ) (Iter (List ℕ))). iter_rest (zip_first z)) from ∙ ap iter_rest left ∙ first ∙ of_sectors
+
+  contents_left : iter_rest (zip_second s) ≡ contents entries
+  contents_left = ap (λ (z : Zip (Iter ℕ) (Iter (List ℕ))). iter_rest (zip_second z)) from ∙ second ∙ of_contents
+
+  -- the entry of a turn
+  pub entry_turn : (p : Bor ℕ × Bor (List ℕ)) → r ≡ Some p → (length xs < length entries) × (p.0.now ≡ target_at entries (length xs)) × (p.1.now ≡ content_at entries (length xs))
+  entry_turn p is =
+      let turn = zip_turn (targets entries) (contents entries) xs s t u r sectors_left contents_left gone p is next in
+      let lt : length xs < length entries = omega (arith, turn.0, length-targets entries) in
+      (lt, turn.2 0 ∙ target_is entries (length xs) lt, turn.3 [] ∙ content_is entries (length xs) lt)
+
+  -- there was a turn for each
+  pub entry_end : r ≡ None → length xs ≡ length entries
+  entry_end is =
+      let ended = zip_end (targets entries) (contents entries) xs s t u r sectors_left contents_left gone is next in
+      omega (arith, ended, length-targets entries, length-contents entries)
 
 -- ---- numbers that stand apart
 pub apart_at : (ns : List ℕ) → AreDistinct ns → (i j : ℕ) → i < j → j < length ns → get_or ns i 0 ≡ get_or ns j 0 → ⊥

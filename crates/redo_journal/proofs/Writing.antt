@@ -1,5 +1,5 @@
 -- One write more.
-use Rattle.std.proofs.Common.{◌≡◌, inl, inr, ℕ, ◌+◌, ◌*◌, ◌/◌, ◌%◌, ◌<◌, List, [], length, get_or, set, arith, ◌∙◌, sym, ap, get_or-set_other, get_or-set_same}
+use Rattle.std.proofs.Common.{◌≡◌, ◌⊎◌, ⊎_elim, inl, inr, ℕ, ◌+◌, ◌*◌, ◌/◌, ◌%◌, ◌<◌, List, [], length, get_or, set, arith, ◌∙◌, sym, ap, get_or-set_other, get_or-set_same}
 use Rattle.std.proofs.lemmas.Bool.{cases_eq, cases_lt}
 use Rattle.fs_layout.specs.Bytes.{u32_of}
 use Rattle.sector_disk.specs.Disk.{Image, sector}
@@ -58,3 +58,7 @@ written_so old new at n content next written is same = written ∙ (λ j. set ol
 -- a sector that isn't written
 pub written_other : (old new : Image) (at n : ℕ) (content : List ℕ) → new ≡ set old at content → (n ≡ at → ⊥) → sector new n ≡ sector old n
 written_other old new at n content written other = ap (λ (l : Image). sector l n) written ∙ get_or-set_other old at n content [] other
+
+-- a sector beside a write, whether that went well
+pub other_kept : (old new : Image) (at n : ℕ) (content : List ℕ) → (new ≡ old) ⊎ (new ≡ set old at content) → (n ≡ at → ⊥) → sector new n ≡ sector old n
+other_kept old new at n content wrote other = ⊎_elim (λ same. ap (λ (l : Image). sector l n) same) (λ put. written_other old new at n content put other) wrote

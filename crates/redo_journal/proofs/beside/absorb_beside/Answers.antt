@@ -1,9 +1,8 @@
 use Rattle.std.proofs.Common.{◌≡◌, ◌∙◌, ℕ, false, [], ◌∷◌, length, arith, sym, subst, rules, length-append}
-use Rattle.std.proofs.lemmas.Slice.Zip.{zip_turn}
 use Rattle.redo_journal.specs.Batch.{has_entry, put_entry}
 use Rattle.redo_journal.specs.Meaning.{IsSpare, data_of}
 use Rattle.redo_journal.specs.States.{IsNoTarget}
-use Rattle.redo_journal.proofs.Entries.{entry_is}
+use Rattle.redo_journal.proofs.Entries.{entry_turn}
 use Rattle.redo_journal.proofs.Sharing.{HaveShared, room_shared, shared_logged, shared_placed}
 use Rattle.redo_journal.proofs.beside.absorb_beside.Goals as goal
 
@@ -11,8 +10,7 @@ pub put-requires-else-is_none-clause-room : goal.put-requires-else-is_none-claus
 put-requires-else-is_none-clause-room g c = λ none.
     let entries = c.args.batch.now.entries in
     let i = length c.loop-n.yielded in
-    let next = entry_is entries _ _ i c.in-Some.n.now c.in-Some.content.now c.sectors.ensures.sectors c.contents.ensures.contents
-    (zip_turn _ _ c.loop-n.yielded c.into_iter-n-iterator.result c.loop-n.n-iterator c.next.new.self c.next.result (search rules) (search rules) c.loop-n.yielded_by (c.in-Some.n, c.in-Some.content) c.in-Some.is c.next.ensures.steps) in
+    let next = entry_turn entries c.contents.result.now c.loop-n.yielded c.loop-n.n-iterator c.next.new.self c.next.result c.into_iter-n-iterator.ensures.into_iter_gives c.zip-n-items.ensures.first c.iter.ensures.rest c.sectors.ensures.sectors c.zip-n-items.ensures.second.0 c.contents.ensures.contents c.loop-n.yielded_by c.next.ensures.steps (c.in-Some.n, c.in-Some.content) c.in-Some.is in
     let left = room_shared (IsSpare (data_of (g.D.Disk.state c.args.journal.now))) (IsNoTarget (g.D.Disk.state c.args.journal.now)) c.args.placed.now.entries c.args.logged.now.entries entries c.loop-n.placed.entries c.loop-n.logged.entries i c.args.logged.now.most next.0
     c.loop-n.invariant.0 c.requires.room (subst (λ (n : ℕ). has_entry c.loop-n.logged.entries n ≡ false) next.1 none) in
     omega (arith, left, c.loop-n.invariant.2)
@@ -21,8 +19,7 @@ pub loop-n-preserved-then-is_placed : goal.loop-n-preserved-then-is_placed
 loop-n-preserved-then-is_placed g c =
     let entries = c.args.batch.now.entries in
     let i = length c.loop-n.yielded in
-    let next = entry_is entries _ _ i c.in-Some.n.now c.in-Some.content.now c.sectors.ensures.sectors c.contents.ensures.contents
-    (zip_turn _ _ c.loop-n.yielded c.into_iter-n-iterator.result c.loop-n.n-iterator c.next.new.self c.next.result (search rules) (search rules) c.loop-n.yielded_by (c.in-Some.n, c.in-Some.content) c.in-Some.is c.next.ensures.steps) in
+    let next = entry_turn entries c.contents.result.now c.loop-n.yielded c.loop-n.n-iterator c.next.new.self c.next.result c.into_iter-n-iterator.ensures.into_iter_gives c.zip-n-items.ensures.first c.iter.ensures.rest c.sectors.ensures.sectors c.zip-n-items.ensures.second.0 c.contents.ensures.contents c.loop-n.yielded_by c.next.ensures.steps (c.in-Some.n, c.in-Some.content) c.in-Some.is in
     let P = IsSpare (data_of (g.D.Disk.state c.args.journal.now)) in
     let Q = IsNoTarget (g.D.Disk.state c.args.journal.now) in
     let spare : P c.in-Some.n.now = c.is_placed.ensures.spare c.if-is_placed.true in
@@ -40,8 +37,7 @@ pub loop-n-preserved : goal.loop-n-preserved
 loop-n-preserved g c =
     let entries = c.args.batch.now.entries in
     let i = length c.loop-n.yielded in
-    let next = entry_is entries _ _ i c.in-Some.n.now c.in-Some.content.now c.sectors.ensures.sectors c.contents.ensures.contents
-    (zip_turn _ _ c.loop-n.yielded c.into_iter-n-iterator.result c.loop-n.n-iterator c.next.new.self c.next.result (search rules) (search rules) c.loop-n.yielded_by (c.in-Some.n, c.in-Some.content) c.in-Some.is c.next.ensures.steps) in
+    let next = entry_turn entries c.contents.result.now c.loop-n.yielded c.loop-n.n-iterator c.next.new.self c.next.result c.into_iter-n-iterator.ensures.into_iter_gives c.zip-n-items.ensures.first c.iter.ensures.rest c.sectors.ensures.sectors c.zip-n-items.ensures.second.0 c.contents.ensures.contents c.loop-n.yielded_by c.next.ensures.steps (c.in-Some.n, c.in-Some.content) c.in-Some.is in
     let P = IsSpare (data_of (g.D.Disk.state c.args.journal.now)) in
     let Q = IsNoTarget (g.D.Disk.state c.args.journal.now) in
     let put = c.put-else-is_none.ensures.put ∙ (λ j. put_entry c.loop-n.logged.entries (next.1 j) (next.2 j)) in (

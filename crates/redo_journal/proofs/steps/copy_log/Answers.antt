@@ -1,13 +1,25 @@
-use Rattle.std.proofs.Common.{◌≡◌, ◌<◌, ◌+◌, ◌∙◌, [], length, get_or, set, arith, ap, get_or-set_other}
+use Rattle.std.proofs.Common.{◌≡◌, ◌<◌, ◌+◌, ◌∙◌, [], length, get_or, set, arith, ap, refl, get_or-set_other}
 use Rattle.sector_disk.specs.Disk.{Image, sector}
-use Rattle.sector_disk.proofs.Moments.{adds_write, adds_narrowed, goes_on, image_or}
+use Rattle.sector_disk.proofs.Moments.{adds_nothing, adds_write, adds_narrowed, goes_on, image_or, started}
 use Rattle.fs_layout.specs.Header.{area_start}
 use Rattle.fs_layout.proofs.Targets.{area_room}
 use Rattle.redo_journal.proofs.Entries.{apart_at, in_at, range_at}
 use Rattle.redo_journal.proofs.Writing.{written_more}
 use Rattle.std.proofs.lemmas.Result.{IfOk-from_err}
-use Rattle.redo_journal.proofs.Causes.{cause_on, cause_since, cause_then}
+use Rattle.redo_journal.proofs.Causes.{cause_on, cause_since, cause_then, well_cause, well_counted, well_more, well_none}
 use Rattle.redo_journal.proofs.steps.copy_log.Goals as goal
+
+pub loop-target-init : goal.loop-target-init
+loop-target-init g c = record {
+  from = omega (arith, c.area_start.ensures);
+  most = c.requires.most;
+  valid = c.requires.valid;
+  low = λ n low. refl;
+  written = λ k lt. absurd (omega (arith, lt));
+  adds = adds_nothing;
+  since = started (g.met.D.Disk.only_now c.args.disk.now) (image_or adds_nothing);
+  well = well_none;
+}
 
 pub loop-target-preserved : goal.loop-target-preserved
 loop-target-preserved g c =
@@ -45,8 +57,7 @@ loop-target-preserved g c =
           (λ k low same. apart_at sectors so_far.valid.apart k i low lt same) so_far.written;
       adds = adds;
       since = goes_on (goes_on so_far.since c.read.ensures.time (image_or read)) c.write.ensures.time (image_or adds);
-      failures = omega (arith, so_far.failures, c.read.ensures.cause.later, c.write.ensures.cause.later);
-      failed_writes = c.in_ok-write.ensures.told.quiet ∙ c.read.ensures.quiet ∙ so_far.failed_writes;
+      well = well_more so_far.well (omega (arith, c.read.ensures.cause.later, c.write.ensures.cause.later)) (c.in_ok-write.ensures.told.quiet ∙ c.read.ensures.quiet);
     }
 
 pub read-requires : goal.read-requires
@@ -62,14 +73,10 @@ write-requires g c =
     let range = range_at c.args.header (g.D.Disk.state c.args.disk.now).size c.args.sectors.now so_far.valid c.loop-target.target-index c.loop-target-test.true in
     omega (arith, range.1, so_far.adds.size, c.read.ensures.same.narrowed.size)
 
-pub returns-clause-written : goal.returns-clause-written
-returns-clause-written g c = λ k lt. c.loop-target.invariant.written k (omega (arith, lt, c.loop-target-test.false))
-
-pub returns-clause-cause : goal.returns-clause-cause
-returns-clause-cause g c = record { later = c.loop-target.invariant.failures; fault = tt }
-
-pub returns-clause-counted : goal.returns-clause-counted
-returns-clause-counted g c = let quiet = c.loop-target.invariant.failed_writes in record { later = omega (arith, quiet); quiet = quiet }
+pub returns : goal.returns
+returns g c =
+    let so_far = c.loop-target.invariant in
+    record { written = λ k lt. so_far.written k (omega (arith, lt, c.loop-target-test.false)); adds = so_far.adds; any_moment = so_far.since; cause = well_cause so_far.well; counted = well_counted so_far.well }
 
 pub returns-in_err-read : goal.returns-in_err-read
 returns-in_err-read g c =
@@ -77,7 +84,7 @@ returns-in_err-read g c =
     let err = c.from_residual.ensures.0 in
     let so_far = c.loop-target.invariant in
     let adds = adds_narrowed so_far.adds c.read.ensures.same.narrowed in
-    record { written = IfOk-from_err r _ err; adds = adds; any_moment = goes_on so_far.since c.read.ensures.time (image_or adds); cause = cause_on r err (cause_since so_far.failures c.in_err-read.ensures.cause); counted = record { later = omega (arith, so_far.failed_writes, c.read.ensures.quiet); quiet = IfOk-from_err r _ err } }
+    record { written = IfOk-from_err r _ err; adds = adds; any_moment = goes_on so_far.since c.read.ensures.time (image_or adds); cause = cause_on r err (cause_since so_far.well.failures c.in_err-read.ensures.cause); counted = record { later = omega (arith, so_far.well.quiet, c.read.ensures.quiet); quiet = IfOk-from_err r _ err } }
 
 pub returns-in_err-write : goal.returns-in_err-write
 returns-in_err-write g c =
@@ -90,6 +97,6 @@ returns-in_err-write g c =
       written = IfOk-from_err r _ err;
       adds = adds;
       any_moment = goes_on (goes_on so_far.since c.read.ensures.time (image_or read)) c.write.ensures.time (image_or adds);
-      cause = cause_on r err (cause_since so_far.failures (cause_then c.read.ensures.cause c.in_err-write.ensures.cause));
-      counted = record { later = omega (arith, so_far.failed_writes, c.read.ensures.quiet, c.write.ensures.told.later); quiet = IfOk-from_err r _ err };
+      cause = cause_on r err (cause_since so_far.well.failures (cause_then c.read.ensures.cause c.in_err-write.ensures.cause));
+      counted = record { later = omega (arith, so_far.well.quiet, c.read.ensures.quiet, c.write.ensures.told.later); quiet = IfOk-from_err r _ err };
     }

@@ -4,6 +4,7 @@ use Rattle.fs_layout.specs.declared.header.TheConstants.{MAX_HEADER}
 use Rattle.fs_layout.specs.Header.{area_start, log_end}
 use Rattle.sector_disk.specs.Disk.{AddsOnly, IsImageOr, LeavesOnly, sector}
 use Rattle.redo_journal.specs.States.{InTargets}
+use Rattle.redo_journal.proofs.Causes.{WentWell}
 use Rattle.redo_journal.proofs.steps.copy_log.Given as goal
 
 abbrev pub invariant-loop-target : goal.invariant-loop-target
@@ -15,6 +16,5 @@ invariant-loop-target g l = record {
   written : (k : ℕ) → k < l.target-index → sector (g.D.Disk.state l.disk).seen (get_or l.sectors k 0) ≡ sector (g.D.Disk.state l.initial.disk).seen (area_start l.header l.area + l.header + k);
   adds : AddsOnly (InTargets l.sectors) (g.D.Disk.state l.initial.disk) (g.D.Disk.state l.disk);
   since : LeavesOnly (g.D.Disk.state l.initial.disk) (g.D.Disk.state l.disk) (IsImageOr (InTargets l.sectors) (g.D.Disk.state l.initial.disk));
-  failures : (g.D.Disk.state l.initial.disk).failures ≤ (g.D.Disk.state l.disk).failures;
-  failed_writes : (g.D.Disk.state l.disk).failed_writes ≡ (g.D.Disk.state l.initial.disk).failed_writes;
+  well : WentWell (g.D.Disk.state l.initial.disk) (g.D.Disk.state l.disk);
 }

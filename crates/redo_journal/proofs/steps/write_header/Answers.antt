@@ -1,14 +1,25 @@
-use Rattle.std.proofs.Common.{◌≡◌, ◌<◌, ◌+◌, ◌*◌, ◌∙◌, ℕ, List, length, get_or, arith, ap, set, ⊎_elim}
-use Rattle.sector_disk.proofs.Moments.{adds_write, goes_on, image_or}
+use Rattle.std.proofs.Common.{◌≡◌, ◌<◌, ◌+◌, ◌*◌, ◌∙◌, ℕ, List, length, get_or, arith, ap, refl, set}
+use Rattle.sector_disk.proofs.Moments.{adds_nothing, adds_write, goes_on, image_or, started}
 use Rattle.fs_layout.specs.Header.{area_start}
 use Rattle.fs_layout.proofs.Targets.{area_room}
 use Rattle.redo_journal.specs.Batch.{target_at, targets}
 use Rattle.redo_journal.proofs.Entries.{length-targets, target_is}
-use Rattle.redo_journal.proofs.Writing.{header_more, written_other}
-use Rattle.sector_disk.specs.Disk.{Image, sector}
+use Rattle.redo_journal.proofs.Writing.{header_more, other_kept, written_other}
 use Rattle.std.proofs.lemmas.Result.{IfOk-from_err}
-use Rattle.redo_journal.proofs.Causes.{cause_on, cause_since, told_on, told_since}
+use Rattle.redo_journal.proofs.Causes.{cause_on, cause_since, told_on, told_since, well_cause, well_more, well_none, well_told}
 use Rattle.redo_journal.proofs.steps.write_header.Goals as goal
+
+pub loop-at-init : goal.loop-at-init
+loop-at-init g c = record {
+  most = c.requires.most;
+  few = c.requires.few;
+  room = c.requires.room;
+  written = λ k near. absurd (omega (arith, near));
+  others = λ n out. refl;
+  adds = adds_nothing;
+  since = started (g.met.D.Disk.only_now c.args.disk.now) (image_or adds_nothing);
+  well = well_none;
+}
 
 pub loop-at-preserved : goal.loop-at-preserved
 loop-at-preserved g c =
@@ -42,15 +53,21 @@ loop-at-preserved g c =
       others = λ n out. written_other last.seen after.seen (from + at) n c.header_sector.result put (λ e. out (omega (arith, e)) (omega (arith, e, low))) ∙ so_far.others n out;
       adds = adds;
       since = goes_on so_far.since c.write.ensures.time (image_or adds);
-      failures = omega (arith, so_far.failures, c.write.ensures.cause.later);
-      failed_writes = c.in_ok-write.ensures.told.quiet ∙ so_far.failed_writes;
+      well = well_more so_far.well c.write.ensures.cause.later c.in_ok-write.ensures.told.quiet;
     }
 
-pub returns-clause-cause : goal.returns-clause-cause
-returns-clause-cause g c = record { later = c.loop-at.invariant.failures; fault = tt }
-
-pub returns-clause-told : goal.returns-clause-told
-returns-clause-told g c = let quiet = c.loop-at.invariant.failed_writes in record { later = omega (arith, quiet); fault = tt; quiet = quiet }
+pub returns : goal.returns
+returns g c =
+    let so_far = c.loop-at.invariant in
+    let entries = c.args.batch.now.entries in
+    record {
+      written = λ k lt. so_far.written k (omega (arith, lt, c.loop-at-test.false, c.header_sectors_for-at-end.ensures, ap length c.sectors-sectors.ensures.sectors, length-targets entries)) lt;
+      others = so_far.others;
+      adds = so_far.adds;
+      any_moment = so_far.since;
+      cause = well_cause so_far.well;
+      told = well_told so_far.well;
+    }
 
 pub write-requires : goal.write-requires
 write-requires g c =
@@ -77,11 +94,10 @@ returns-in_err-write g c =
     record {
       written = IfOk-from_err r _ err;
       others = λ n out.
-          ⊎_elim (λ same. ap (λ (l : Image). sector l n) same ∙ so_far.others n out)
-          (λ put. written_other last.seen after.seen (c.area_start-from.result + at) n c.header_sector.result put (λ e. out (omega (arith, e, starts)) (omega (arith, e, starts, low))) ∙ so_far.others n out)
-          c.write.ensures.changes.seen;
+          other_kept last.seen after.seen (c.area_start-from.result + at) n c.header_sector.result c.write.ensures.changes.seen (λ e. out (omega (arith, e, starts)) (omega (arith, e, starts, low)))
+          ∙ so_far.others n out;
       adds = adds;
       any_moment = goes_on so_far.since c.write.ensures.time (image_or adds);
-      cause = cause_on r err (cause_since so_far.failures c.in_err-write.ensures.cause);
-      told = told_on r err (told_since so_far.failed_writes c.in_err-write.ensures.told);
+      cause = cause_on r err (cause_since so_far.well.failures c.in_err-write.ensures.cause);
+      told = told_on r err (told_since so_far.well.quiet c.in_err-write.ensures.told);
     }

@@ -5,6 +5,7 @@ use Rattle.fs_layout.specs.Header.{area_start, log_end, max_targets}
 use Rattle.sector_disk.specs.Disk.{AddsOnly, IsImageOr, LeavesOnly, sector}
 use Rattle.redo_journal.specs.Batch.{target_at}
 use Rattle.redo_journal.specs.States.{InLog}
+use Rattle.redo_journal.proofs.Causes.{WentWell}
 use Rattle.redo_journal.proofs.steps.write_header.Given as goal
 
 abbrev pub invariant-loop-at : goal.invariant-loop-at
@@ -16,6 +17,5 @@ invariant-loop-at g l = record {
   others : (n : ℕ) → (area_start l.header l.area ≤ n → n < area_start l.header l.area + l.header → ⊥) → sector (g.D.Disk.state l.disk).seen n ≡ sector (g.D.Disk.state l.initial.disk).seen n;
   adds : AddsOnly (InLog l.header l.area) (g.D.Disk.state l.initial.disk) (g.D.Disk.state l.disk);
   since : LeavesOnly (g.D.Disk.state l.initial.disk) (g.D.Disk.state l.disk) (IsImageOr (InLog l.header l.area) (g.D.Disk.state l.initial.disk));
-  failures : (g.D.Disk.state l.initial.disk).failures ≤ (g.D.Disk.state l.disk).failures;
-  failed_writes : (g.D.Disk.state l.disk).failed_writes ≡ (g.D.Disk.state l.initial.disk).failed_writes;
+  well : WentWell (g.D.Disk.state l.initial.disk) (g.D.Disk.state l.disk);
 }

@@ -3,6 +3,7 @@ use Rattle.sector_disk.specs.Disk.{AddsOnly, IsImageOr, LeavesOnly, sector}
 use Rattle.fs_layout.specs.Header.{area_start, log_end, max_targets}
 use Rattle.fs_layout.specs.declared.header.TheConstants.{MAX_HEADER}
 use Rattle.redo_journal.specs.States.{InLog}
+use Rattle.redo_journal.proofs.Causes.{WentWell}
 use Rattle.redo_journal.proofs.steps.write_log.Given as goal
 
 abbrev pub invariant-loop-content : goal.invariant-loop-content
@@ -15,6 +16,5 @@ invariant-loop-content g l = record {
   written : (k : ℕ) → k < l.content-index → sector (g.D.Disk.state l.disk).seen (area_start l.header l.area + l.header + k) ≡ get_or l.content-items k [];
   adds : AddsOnly (InLog l.header l.area) (g.D.Disk.state l.initial.disk) (g.D.Disk.state l.disk);
   since : LeavesOnly (g.D.Disk.state l.initial.disk) (g.D.Disk.state l.disk) (IsImageOr (InLog l.header l.area) (g.D.Disk.state l.initial.disk));
-  failures : (g.D.Disk.state l.initial.disk).failures ≤ (g.D.Disk.state l.disk).failures;
-  failed_writes : (g.D.Disk.state l.disk).failed_writes ≡ (g.D.Disk.state l.initial.disk).failed_writes;
+  well : WentWell (g.D.Disk.state l.initial.disk) (g.D.Disk.state l.disk);
 }

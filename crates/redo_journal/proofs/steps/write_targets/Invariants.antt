@@ -1,8 +1,9 @@
-use Rattle.std.proofs.Common.{◌≡◌, ◌≤◌, ◌<◌, ℕ, length}
+use Rattle.std.proofs.Common.{◌≡◌, ◌<◌, ℕ, length}
 use Rattle.std.specs.Prelude.{Contains}
 use Rattle.sector_disk.specs.Disk.{AddsOnly, IsImageOr, LeavesOnly, sector}
 use Rattle.redo_journal.specs.Batch.{IsOnDisk, targets, target_at, content_at}
 use Rattle.redo_journal.specs.States.{header_at, InTargets}
+use Rattle.redo_journal.proofs.Causes.{WentWell}
 use Rattle.redo_journal.proofs.steps.write_targets.Given as goal
 
 abbrev pub invariant-loop-n : goal.invariant-loop-n
@@ -12,6 +13,5 @@ invariant-loop-n g l = record {
   others : (n : ℕ) → (Contains (targets l.batch.entries) n → ⊥) → sector (g.D.Disk.state l.disk).seen n ≡ sector (g.D.Disk.state l.initial.disk).seen n;
   adds : AddsOnly (InTargets (targets l.batch.entries)) (g.D.Disk.state l.initial.disk) (g.D.Disk.state l.disk);
   since : LeavesOnly (g.D.Disk.state l.initial.disk) (g.D.Disk.state l.disk) (IsImageOr (InTargets (targets l.batch.entries)) (g.D.Disk.state l.initial.disk));
-  failures : (g.D.Disk.state l.initial.disk).failures ≤ (g.D.Disk.state l.disk).failures;
-  failed_writes : (g.D.Disk.state l.disk).failed_writes ≡ (g.D.Disk.state l.initial.disk).failed_writes;
+  well : WentWell (g.D.Disk.state l.initial.disk) (g.D.Disk.state l.disk);
 }

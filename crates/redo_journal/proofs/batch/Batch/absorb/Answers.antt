@@ -1,22 +1,19 @@
-use Rattle.std.proofs.Common.{◌≡◌, ◌∙◌, ℕ, false, [], ◌∷◌, length, arith, sym, subst, rules, length-append}
-use Rattle.std.proofs.lemmas.Slice.Zip.{zip_turn}
+use Rattle.std.proofs.Common.{◌≡◌, ◌∙◌, ℕ, false, [], ◌∷◌, length, arith, sym, subst, length-append}
 use Rattle.redo_journal.specs.Batch.{has_entry, put_entry}
 use Rattle.redo_journal.proofs.Absorbing.{HasTaken, room_left, taken_more}
-use Rattle.redo_journal.proofs.Entries.{entry_is}
+use Rattle.redo_journal.proofs.Entries.{entry_turn}
 use Rattle.redo_journal.proofs.batch.Batch.absorb.Goals as goal
 
 pub put-requires-clause-room : goal.put-requires-clause-room
 put-requires-clause-room c = λ none.
-    let next = entry_is c.args.other.now.entries _ _ (length c.loop-n.yielded) c.in-Some.n.now c.in-Some.content.now c.sectors.ensures.sectors c.contents.ensures.contents
-    (zip_turn _ _ c.loop-n.yielded c.into_iter-n-iterator.result c.loop-n.n-iterator c.next.new.self c.next.result (search rules) (search rules) c.loop-n.yielded_by (c.in-Some.n, c.in-Some.content) c.in-Some.is c.next.ensures.steps) in
+    let next = entry_turn c.args.other.now.entries c.contents.result.now c.loop-n.yielded c.loop-n.n-iterator c.next.new.self c.next.result c.into_iter-n-iterator.ensures.into_iter_gives c.zip-n-items.ensures.first c.iter.ensures.rest c.sectors.ensures.sectors c.zip-n-items.ensures.second.0 c.contents.ensures.contents c.loop-n.yielded_by c.next.ensures.steps (c.in-Some.n, c.in-Some.content) c.in-Some.is in
     let left = room_left c.args.self.now.entries c.loop-n.self.entries c.args.other.now.entries (length c.loop-n.yielded) c.args.self.now.most next.0 c.loop-n.invariant.0 c.requires.room (subst (λ (n : ℕ). has_entry c.loop-n.self.entries n ≡ false) next.1 none) in
     omega (arith, left, c.loop-n.invariant.1)
 
 pub loop-n-preserved : goal.loop-n-preserved
 loop-n-preserved c =
     let entries = c.args.other.now.entries in
-    let next = entry_is entries _ _ (length c.loop-n.yielded) c.in-Some.n.now c.in-Some.content.now c.sectors.ensures.sectors c.contents.ensures.contents
-    (zip_turn _ _ c.loop-n.yielded c.into_iter-n-iterator.result c.loop-n.n-iterator c.next.new.self c.next.result (search rules) (search rules) c.loop-n.yielded_by (c.in-Some.n, c.in-Some.content) c.in-Some.is c.next.ensures.steps) in
+    let next = entry_turn entries c.contents.result.now c.loop-n.yielded c.loop-n.n-iterator c.next.new.self c.next.result c.into_iter-n-iterator.ensures.into_iter_gives c.zip-n-items.ensures.first c.iter.ensures.rest c.sectors.ensures.sectors c.zip-n-items.ensures.second.0 c.contents.ensures.contents c.loop-n.yielded_by c.next.ensures.steps (c.in-Some.n, c.in-Some.content) c.in-Some.is in
     let taken = taken_more c.args.self.now.entries c.loop-n.self.entries c.put.new.self.entries entries (length c.loop-n.yielded) c.sectors.ensures.batch next.0 c.loop-n.invariant.0
     (c.put.ensures.put ∙ (λ j. put_entry c.loop-n.self.entries (next.1 j) (next.2 j))) in (
       subst (HasTaken c.args.self.now.entries c.put.new.self.entries entries) (sym (length-append c.loop-n.yielded ((c.in-Some.n, c.in-Some.content) ∷ []))) taken,
