@@ -1,6 +1,7 @@
 -- A batch that takes the sectors of another one.
 use Rattle.std.proofs.Common.{◌≡◌, inl, inr, ℕ, zero, suc, ◌+◌, ◌≤◌, ◌<◌, true, false, not, cond, List, [], ◌∷◌, length, take, eqb, arith, refl, sym, ◌∙◌, ap, subst, add-one}
 use Rattle.std.proofs.lemmas.Bool.{cases_Bool, cond-true, cond-false}
+use Rattle.std.proofs.lemmas.List.{take_all}
 use Rattle.std.proofs.lemmas.List.Sums.{count_by_more_no, count_by_more_yes, sum_by-take-le}
 use Rattle.std.specs.List.{count_by}
 use Rattle.fs_layout.specs.Bytes.{SectorMap}
@@ -89,6 +90,17 @@ taken_more start old new entries i is lt so_far put =
           let at = on_disk_at header size entries i others lt in
           subst (IsOnDisk header size) (sym put) (on_disk_put header size old n content at.0 at.1 (so_far.on_disk header size first others));
     }
+
+-- nothing is taken yet,
+pub none_taken : (start entries : List Entry) → HasTaken start start entries 0
+none_taken start entries = record { has = λ j le lt. refl; len = omega arith; map = λ f n. refl; on_disk = λ header size first others. first }
+
+-- and all entries at the end
+pub added_all : (start entries : List Entry) (i : ℕ) → i ≡ length entries → added_among start entries i ≡ added start entries
+added_all start entries i all = ap (count_by (λ n. not (has_entry start n))) (take_all i (targets entries) (omega (arith, all, length-targets entries)))
+
+pub map_all : (entries : List Entry) (i : ℕ) → i ≡ length entries → (f : SectorMap) (n : ℕ) → with_batch (take i entries) f n ≡ with_batch entries f n
+map_all entries i all f n = ap (λ (l : List Entry). with_batch l f n) (take_all i entries (omega (arith, all)))
 
 -- a sector that is added has room
 pub room_left : (start old entries : List Entry) (i most : ℕ) → i < length entries → HasTaken start old entries i → length start + added start entries ≤ most → has_entry old (target_at entries i) ≡ false → length old < most

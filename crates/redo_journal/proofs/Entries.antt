@@ -11,8 +11,9 @@ use Rattle.std.specs.Slice.Iter.{iter_rest}
 use Rattle.std.specs.declared.iter.Zip.{Zip}
 use Rattle.fs_layout.specs.Commit.{AreDistinct, AreTargets}
 use Rattle.fs_layout.specs.Header.{log_end}
+use Rattle.fs_layout.specs.declared.header.TheConstants.{LEAST_LOG_END}
 use Rattle.fs_layout.proofs.RecoveryLaw.{contains_at}
-use Rattle.redo_journal.specs.Batch.{Entry, targets, contents, target_at, content_at}
+use Rattle.redo_journal.specs.Batch.{Entry, IsBatch, targets, contents, target_at, content_at}
 use Rattle.redo_journal.specs.States.{InTargets}
 
 pub length-targets : (entries : List Entry) → length (targets entries) ≡ length entries
@@ -60,6 +61,11 @@ targets_apart entries apart i j lt fits same =
     (target_is entries i (omega (arith, lt, fits)) ∙ same ∙ sym (target_is entries j fits))
 
 -- ---- targets on a disk
+pub high_at : (entries : List Entry) → IsBatch entries → (k : ℕ) → k < length entries → LEAST_LOG_END ≤ target_at entries k
+high_at entries is k lt =
+    let high = is.high k 0 (omega (arith, lt, length-targets entries)) in
+    omega (arith, high, target_is entries k lt)
+
 pub range_at : (header size : ℕ) (ns : List ℕ) → AreTargets header size ns → (k : ℕ) → k < length ns → (log_end header ≤ get_or ns k 0) × (get_or ns k 0 < size)
 range_at header size ns valid k lt = valid.in_range k 0 lt
 

@@ -1,9 +1,10 @@
-use Rattle.std.proofs.Common.{◌≡◌, ◌∙◌, ℕ, false, [], ◌∷◌, length, arith, sym, subst, rules, length-append}
-use Rattle.redo_journal.specs.Batch.{has_entry, put_entry}
+use Rattle.std.proofs.Common.{◌≡◌, ◌∙◌, ℕ, false, [], ◌∷◌, length, arith, refl, sym, subst, rules, length-append}
+use Rattle.redo_journal.specs.Batch.{has_entry, put_entry, with_batch}
 use Rattle.redo_journal.specs.Meaning.{IsSpare, data_of}
 use Rattle.redo_journal.specs.States.{IsNoTarget}
-use Rattle.redo_journal.proofs.Entries.{entry_turn}
-use Rattle.redo_journal.proofs.Sharing.{HaveShared, room_shared, shared_logged, shared_placed}
+use Rattle.redo_journal.proofs.Absorbing.{added_all, map_all}
+use Rattle.redo_journal.proofs.Entries.{entry_end, entry_turn, high_at}
+use Rattle.redo_journal.proofs.Sharing.{HaveShared, none_shared, room_shared, shared_logged, shared_placed}
 use Rattle.redo_journal.proofs.beside.absorb_beside.Goals as goal
 
 pub put-requires-else-is_none-clause-room : goal.put-requires-else-is_none-clause-room
@@ -46,3 +47,42 @@ loop-n-preserved g c =
       c.loop-n.invariant.1,
       c.put-else-is_none.ensures.most ∙ c.loop-n.invariant.2,
     )
+
+pub loop-n-init : goal.loop-n-init
+loop-n-init g c =
+    let none = none_shared (IsSpare (data_of (g.D.Disk.state c.args.journal.now))) (IsNoTarget (g.D.Disk.state c.args.journal.now)) c.args.placed.now.entries c.args.logged.now.entries c.args.batch.now.entries c.requires.spare c.requires.beside in
+    (none, refl, refl)
+
+pub returns : goal.returns
+returns g c =
+    let entries = c.args.batch.now.entries in
+    let i = length c.loop-n.yielded in
+    let shared = c.loop-n.invariant.0 in
+    let all = entry_end entries c.contents.result.now c.loop-n.yielded c.loop-n.n-iterator c.next.new.self c.next.result c.into_iter-n-iterator.ensures.into_iter_gives c.zip-n-items.ensures.first c.iter.ensures.rest c.sectors.ensures.sectors c.zip-n-items.ensures.second.0 c.contents.ensures.contents c.loop-n.yielded_by c.next.ensures.steps c.in-None.is in
+    record {
+      map = λ f n. shared.map f n ∙ map_all entries i all (with_batch c.args.logged.now.entries (with_batch c.args.placed.now.entries f)) n;
+      spare = shared.first;
+      beside = shared.second;
+      few = omega (arith, shared.few, added_all c.args.logged.now.entries entries i all);
+      on_disk = shared.on_disk;
+      most = (c.loop-n.invariant.1, c.loop-n.invariant.2);
+    }
+
+pub is_placed-requires : goal.is_placed-requires
+is_placed-requires g c = record { layout = c.requires.layout; fits = c.requires.fits; stands = c.requires.stands; spare = c.loop-n.invariant.0.first; beside = c.loop-n.invariant.0.second }
+
+pub put-requires : goal.put-requires
+put-requires g c =
+    let entries = c.args.batch.now.entries in
+    let next = entry_turn entries c.contents.result.now c.loop-n.yielded c.loop-n.n-iterator c.next.new.self c.next.result c.into_iter-n-iterator.ensures.into_iter_gives c.zip-n-items.ensures.first c.iter.ensures.rest c.sectors.ensures.sectors c.zip-n-items.ensures.second.0 c.contents.ensures.contents c.loop-n.yielded_by c.next.ensures.steps (c.in-Some.n, c.in-Some.content) c.in-Some.is in
+    let shared = c.loop-n.invariant.0 in
+    record {
+      part = omega (arith, next.1, high_at entries c.sectors.ensures.batch (length c.loop-n.yielded) next.0);
+      room = λ none. omega (arith, shared.places, next.0, c.requires.places, c.loop-n.invariant.1);
+    }
+
+pub put-requires-else-is_none-clause-part : goal.put-requires-else-is_none-clause-part
+put-requires-else-is_none-clause-part g c =
+    let entries = c.args.batch.now.entries in
+    let next = entry_turn entries c.contents.result.now c.loop-n.yielded c.loop-n.n-iterator c.next.new.self c.next.result c.into_iter-n-iterator.ensures.into_iter_gives c.zip-n-items.ensures.first c.iter.ensures.rest c.sectors.ensures.sectors c.zip-n-items.ensures.second.0 c.contents.ensures.contents c.loop-n.yielded_by c.next.ensures.steps (c.in-Some.n, c.in-Some.content) c.in-Some.is in
+    omega (arith, next.1, high_at entries c.sectors.ensures.batch (length c.loop-n.yielded) next.0)
