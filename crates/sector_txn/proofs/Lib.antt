@@ -3,3 +3,4 @@ pub mod Delta
 pub mod Images
 mod Pairs
 pub mod TransactionRuns
+mod ReadCalls

@@ -3,8 +3,10 @@
 --     Waits        it is what may wait in a store
 --     EntriesHavePlaces, EntriesHaveRoom        changes fit beside what waits
 --     IsRead        what a read leaves
-use Rattle.std.specs.Prelude.{◌≡◌, ◌≤◌, ℕ, ◌+◌, List, length, Result}
+--     AreReserved        the memory of a store, in which nothing waits yet
+use Rattle.std.specs.Prelude.{◌≡◌, ◌≤◌, ℕ, ◌+◌, List, [], length, Result}
 use Rattle.fs_layout.specs.Bytes.{SectorMap}
+use Rattle.fs_layout.specs.Header.{max_delta, max_targets}
 use Rattle.redo_journal.specs.Batch.{BatchView, Entry, added, with_batch}
 use Rattle.redo_journal.specs.Meaning.{data_of}
 use Rattle.sector_disk.specs.Disk.{DiskState, HasCause, IsSame, OnlyReads}
@@ -33,3 +35,13 @@ pub record IsRead {T E : Type 0} (old new : DiskState) (result : Result T E) : T
   pub unchanged : IsSame old new
   pub reads : OnlyReads old new
   pub cause : HasCause old new result
+
+-- memory for what waits, for a transaction and for what the last commit logged, on a disk with so many header sectors: nothing is in it
+pub record AreReserved (header : ℕ) (waiting : Waiting) (changes logs : BatchView) : Type 0 where
+  pub placed : waiting.placed.value.entries ≡ []
+  pub logged : waiting.logged.value.entries ≡ []
+  pub places : max_delta header ≤ waiting.placed.value.most
+  pub log : waiting.logged.value.most ≡ max_targets header
+  pub delta : changes.entries ≡ []
+  pub most : changes.most ≡ max_delta header
+  pub last : logs.most ≡ max_targets header

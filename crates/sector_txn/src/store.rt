@@ -9,6 +9,7 @@ ghost use Rattle.redo_journal.specs.States.{header_at, IsIdle};
 ghost use Rattle.sector_disk.specs.Disk.{IsSame, ForgetsPast, Elapses, HasCause, HasWriteCause};
 ghost use Rattle.sector_txn.specs.Images.{LeavesOneOf, LeavesOldOr};
 ghost use Rattle.sector_txn.specs.Stores.{present, map_before, map_now, txn_state, disk_after};
+ghost use Rattle.sector_txn.specs.Waits.{AreReserved};
 
 use crate::Sectors;
 use crate::cached::CachedJournal;
@@ -369,12 +370,7 @@ fn reserved(
     header: u32,
 ) -> Result<(Waiting, Box<Batch>, Box<Batch>, Hints), AllocError>
     requires { header ≤ MAX_HEADER }
-    ensures placed { IfOk result (λ parts. parts.0.placed.value.entries ≡ []) }
-    ensures logged { IfOk result (λ parts. parts.0.logged.value.entries ≡ []) }
-    ensures places { IfOk result (λ parts. max_delta header ≤ parts.0.placed.value.most) }
-    ensures log { IfOk result (λ parts. parts.0.logged.value.most ≡ max_targets header) }
-    ensures delta { IfOk result (λ parts. parts.1.value.entries ≡ []) }
-    ensures most { IfOk result (λ parts. (parts.1.value.most ≡ max_delta header) × (parts.2.value.most ≡ max_targets header)) }
+    ensures { IfOk result (λ parts. AreReserved header parts.0 parts.1.value parts.2.value) }
 {
     let waiting = Waiting::new(alloc, header)?;
     let delta = new_batch(alloc, most_delta(header))?;

@@ -1,11 +1,13 @@
-use Rattle.std.proofs.Common.{◌≡◌, ◌∙◌, ◌+◌, ◌≤◌, length, ap, sym, subst}
+use Rattle.std.proofs.Common.{◌≡◌, ◌∙◌, ◌+◌, ◌-◌, ◌≤◌, List, length, ap, arith, refl, sym, subst}
 use Rattle.fs_layout.specs.Header.{max_delta}
-use Rattle.redo_journal.specs.Batch.{BatchView, IsOnDisk, added, with_batch}
+use Rattle.redo_journal.specs.Batch.{BatchView, Entry, IsOnDisk, added, with_batch}
 use Rattle.redo_journal.specs.States.{header_at}
 use Rattle.redo_journal.specs.Meaning.{data_of, SameMap}
 use Rattle.redo_journal.proofs.Meaning.{mapped_by, super_on_disk, with_batch_same}
 use Rattle.sector_txn.specs.Images.{LeavesOneOf}
-use Rattle.sector_txn.specs.Stores.{all_waiting, map_before, map_now, present}
+use Rattle.redo_journal.proofs.Causes.{cause_as, cause_at_err, cause_at_ok, told_as, told_at_err, told_at_ok}
+use Rattle.sector_disk.specs.Disk.{DiskState}
+use Rattle.sector_txn.specs.Stores.{IsTxn, TxnView, all_waiting, map_before, map_now, present}
 use Rattle.sector_txn.proofs.Images.{first_map}
 use Rattle.sector_txn.proofs.store.Txn.keep.Goals as goal
 
@@ -67,3 +69,41 @@ invariant_of-result g c = (
   c.keep.ensures.waits,
   c.clear.ensures.most ∙ ap (λ (b : BatchView). b.most) c.deref_mut.ensures.value ∙ c.self.invariant.2 ∙ ap max_delta (sym c.in-Ok.ensures.header),
 )
+
+pub commit_if_full-requires : goal.commit_if_full-requires
+commit_if_full-requires g c =
+    record { waits = c.self.invariant.1; few = subst (λ (b : BatchView). length b.entries ≤ max_delta (header_at (g.D.Disk.state c.self.inside.journal).seen)) (sym c.deref.ensures) c.self.invariant.0.few }
+
+pub keep-requires-clause-waits : goal.keep-requires-clause-waits
+keep-requires-clause-waits g c = c.in-Ok.ensures.waits
+
+-- without changes nothing is put
+none_put : {D : Type 0} (state : D → DiskState) {inside seen : TxnView D} {entries : List Entry} → inside ≡ seen → IsTxn (state inside.disk) inside.delta → entries ≡ inside.delta
+    → max_delta (header_at (state seen.disk).seen) - length seen.delta ≡ max_delta (header_at (state seen.disk).seen) → length entries ≡ 0
+none_put state {inside} {seen} is txn same none =
+    let few = subst (λ t. length t.delta ≤ max_delta (header_at (state t.disk).seen)) is txn.few in
+    omega (arith, few, none, ap length same, ap (λ (t : TxnView _). length t.delta) is)
+
+pub returns-in-Ok-clause-empty : goal.returns-in-Ok-clause-empty
+returns-in-Ok-clause-empty g c = λ none.
+    let kept = c.in-Ok.ensures.empty (none_put g.D.Disk.state c.self.view_is c.self.invariant.0 (ap (λ (b : BatchView). b.entries) c.deref.ensures) none) in
+    let same : c.in-Ok.journal ≡ c.self.inside.journal = cc kept in
+    (refl, same ∙ ap (λ (t : TxnView _). t.disk) c.self.view_is)
+
+pub returns-in-Err-clause-empty : goal.returns-in-Err-clause-empty
+returns-in-Err-clause-empty g c = λ none.
+    let kept = c.in-Err.ensures.empty (none_put g.D.Disk.state c.self.view_is c.self.invariant.0 (ap (λ (b : BatchView). b.entries) c.deref.ensures) none) in
+    let other : ⊥ = cc kept in
+    absurd other
+
+pub returns-in-Ok-clause-cause : goal.returns-in-Ok-clause-cause
+returns-in-Ok-clause-cause g c = cause_as (λ (t : TxnView g.row.D.Denot). g.D.Disk.state t.disk) c.self.view_is (cause_at_ok c.in-Ok.ensures.cause)
+
+pub returns-in-Ok-clause-told : goal.returns-in-Ok-clause-told
+returns-in-Ok-clause-told g c = told_as (λ (t : TxnView g.row.D.Denot). g.D.Disk.state t.disk) c.self.view_is (told_at_ok c.in-Ok.ensures.told)
+
+pub returns-in-Err-clause-cause : goal.returns-in-Err-clause-cause
+returns-in-Err-clause-cause g c = cause_as (λ (t : TxnView g.row.D.Denot). g.D.Disk.state t.disk) c.self.view_is (cause_at_err c.in-Err.ensures.cause)
+
+pub returns-in-Err-clause-told : goal.returns-in-Err-clause-told
+returns-in-Err-clause-told g c = told_as (λ (t : TxnView g.row.D.Denot). g.D.Disk.state t.disk) c.self.view_is (told_at_err c.in-Err.ensures.told)
