@@ -1,8 +1,10 @@
 -- One write more.
-use Rattle.std.proofs.Common.{◌≡◌, ◌⊎◌, ⊎_elim, inl, inr, ℕ, ◌+◌, ◌*◌, ◌/◌, ◌%◌, ◌<◌, List, [], length, get_or, set, arith, ◌∙◌, sym, ap, get_or-set_other, get_or-set_same}
+use Rattle.std.proofs.Common.{◌≡◌, ◌≤◌, ◌⊎◌, ⊎_elim, inl, inr, ℕ, ◌+◌, ◌*◌, ◌/◌, ◌%◌, ◌<◌, List, [], length, get_or, set, arith, ◌∙◌, sym, ap, get_or-set_other, get_or-set_same}
 use Rattle.std.proofs.lemmas.Bool.{cases_eq, cases_lt}
 use Rattle.fs_layout.specs.Bytes.{u32_of}
-use Rattle.sector_disk.specs.Disk.{Image, sector}
+use Rattle.sector_disk.specs.Disk.{AddsOnly, DiskState, Elapses, Image, IsImage, IsImageOr, LeavesOnly, sector}
+use Rattle.sector_disk.proofs.Moments.{adds_nothing, goes_on, image_or, started}
+use Rattle.redo_journal.proofs.Causes.{WentWell, well_more, well_none}
 
 -- The first i contents are in their sectors. A write puts the next one into a sector of its own.
 pub written_more : (at : ℕ → ℕ) (content : ℕ → List ℕ) (old new : Image) (i : ℕ) → at i < length old → new ≡ set old (at i) (content i)
@@ -62,3 +64,16 @@ written_other old new at n content written other = ap (λ (l : Image). sector l 
 -- a sector beside a write, whether that went well
 pub other_kept : (old new : Image) (at n : ℕ) (content : List ℕ) → (new ≡ old) ⊎ (new ≡ set old at content) → (n ≡ at → ⊥) → sector new n ≡ sector old n
 other_kept old new at n content wrote other = ⊎_elim (λ same. ap (λ (l : Image). sector l n) same) (λ put. written_other old new at n content put other) wrote
+
+-- ---- a loop of writes that went well, of contents that R allows
+pub record HasRun (R : ℕ → List ℕ → Type 0) (old new : DiskState) : Type 0 where
+  pub adds : AddsOnly R old new
+  pub since : LeavesOnly old new (IsImageOr R old)
+  pub well : WentWell old new
+
+pub run_none : {R : ℕ → List ℕ → Type 0} {disk : DiskState} → ((image : Image) → disk.left_since disk.moment image → IsImage disk image) → HasRun R disk disk
+run_none only_now = record { adds = adds_nothing; since = started only_now (image_or adds_nothing); well = well_none }
+
+-- one call more
+pub run_more : {R : ℕ → List ℕ → Type 0} {old mid new : DiskState} → HasRun R old mid → AddsOnly R old new → Elapses mid new → mid.failures ≤ new.failures → new.failed_writes ≡ mid.failed_writes → HasRun R old new
+run_more so_far adds time later quiet = record { adds = adds; since = goes_on so_far.since time (image_or adds); well = well_more so_far.well later quiet }
