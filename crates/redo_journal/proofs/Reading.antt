@@ -4,6 +4,7 @@ use Rattle.std.specs.Prelude.{Option, Some, MatchOption}
 use Rattle.fs_layout.specs.Bytes.{SectorMap, u32_of}
 use Rattle.fs_layout.specs.Commit.{AreTargets, IsCommit, IsSpelled, IsValidCommit, named_start, named_count, named_targets}
 use Rattle.fs_layout.specs.Header.{log_end, header_of, max_targets, area_start}
+use Rattle.sector_disk.specs.Disk.{Image, sector}
 use Rattle.fs_layout.proofs.Targets.{length-named, named_by_numbers, not_valid, word_of}
 
 -- a commit counts more targets than the header has room for
@@ -25,13 +26,15 @@ log_there header size count zero one image is at_zero at_one counts valid some =
     subst (λ (h : ℕ). log_end h ≤ size) (sym same) (omega (arith, range.0, range.1))
 
 -- the targets of a commit are not valid, or its sector is no spelling of them
-pub other_targets : (header size from : ℕ) (zero one : List ℕ) (image : SectorMap) (counted ts : List ℕ) → size < 2 ^ 32 → header ≡ header_of zero → zero ≡ image 0 → one ≡ image 1
+pub other_targets : (header size from : ℕ) (zero one : List ℕ) (was now : Image) (counted ts : List ℕ) → now ≡ was → size < 2 ^ 32 → header ≡ header_of zero → zero ≡ sector was 0 → one ≡ sector was 1
     → from ≡ area_start header (u32_of one 4 / 0x8000_0000)
     → length counted ≡ u32_of one 4 % 0x8000_0000 → ((i : ℕ) → i < 126 → i < length counted → get_or counted i 0 ≡ u32_of one (8 + 4 * i))
     → length ts ≡ length counted → ((i : ℕ) → i < 126 → get_or ts i 0 ≡ get_or counted i 0)
-    → ((k : ℕ) → 126 + k < length counted → u32_of (image (from + k / 128)) (4 * (k % 128)) ≡ get_or ts (126 + k) 0)
-    → (AreTargets header size ts → IsSpelled header one ts → ⊥) → IsValidCommit size image → ⊥
-other_targets header size from zero one image counted ts small is at_zero at_one starts count first length_is same more none =
+    → ((k : ℕ) → 126 + k < length counted → u32_of (sector now (from + k / 128)) (4 * (k % 128)) ≡ get_or ts (126 + k) 0)
+    → (AreTargets header size ts → IsSpelled header one ts → ⊥) → IsValidCommit size (sector was) → ⊥
+other_targets header size from zero one was now counted ts seen small is at_zero at_one starts count first length_is same more_now none =
+    let image = sector was in
+    let more = subst (λ (l : Image). (k : ℕ) → 126 + k < length counted → u32_of (sector l (from + k / 128)) (4 * (k % 128)) ≡ get_or ts (126 + k) 0) seen more_now in
     let header_is : header ≡ header_of (image 0) = is ∙ ap header_of at_zero in
     not_valid size image ts small
     (named_by_numbers image ts (ap (λ s. u32_of s 4 % 0x8000_0000) (sym at_one) ∙ sym count ∙ sym length_is)
@@ -43,11 +46,13 @@ other_targets header size from zero one image counted ts small is at_zero at_one
     area_start_is header from zero one image is at_zero at_one starts = starts ∙ (λ j. area_start ((is ∙ ap header_of at_zero) j) (u32_of (at_one j) 4 / 0x8000_0000))
 
 -- the commit is valid
-pub found_commit : (header size from : ℕ) (zero one : List ℕ) (image : SectorMap) (counted ts : List ℕ) → header ≡ header_of zero → zero ≡ image 0 → one ≡ image 1
+pub found_commit : (header size from : ℕ) (zero one : List ℕ) (was now : Image) (counted ts : List ℕ) → now ≡ was → header ≡ header_of zero → zero ≡ sector was 0 → one ≡ sector was 1
     → from ≡ area_start header (u32_of one 4 / 0x8000_0000) → length ts ≡ length counted
-    → ((k : ℕ) → 126 + k < length counted → u32_of (image (from + k / 128)) (4 * (k % 128)) ≡ get_or ts (126 + k) 0)
-    → AreTargets header size ts → IsSpelled header one ts → IsCommit size image ts
-found_commit header size from zero one image counted ts is at_zero at_one starts length_is more valid said =
+    → ((k : ℕ) → 126 + k < length counted → u32_of (sector now (from + k / 128)) (4 * (k % 128)) ≡ get_or ts (126 + k) 0)
+    → AreTargets header size ts → IsSpelled header one ts → IsCommit size (sector was) ts
+found_commit header size from zero one was now counted ts seen is at_zero at_one starts length_is more_now valid said =
+    let image = sector was in
+    let more = subst (λ (l : Image). (k : ℕ) → 126 + k < length counted → u32_of (sector l (from + k / 128)) (4 * (k % 128)) ≡ get_or ts (126 + k) 0) seen more_now in
     let header_is : header ≡ header_of (image 0) = is ∙ ap header_of at_zero in
     let start : from ≡ named_start image = starts ∙ (λ j. area_start (header_is j) (u32_of (at_one j) 4 / 0x8000_0000)) in
     let here : IsSpelled (header_of (image 0)) (image 1) ts = subst (λ s. IsSpelled (header_of (image 0)) s ts) at_one (subst (λ h. IsSpelled h one ts) header_is said) in

@@ -1,9 +1,9 @@
-use Rattle.std.proofs.Common.{◌≡◌, ◌<◌, ◌≤◌, ◌+◌, ◌*◌, ◌/◌, ◌%◌, ◌∙◌, ℕ, length, get_or, ap, refl, sym, subst, List}
+use Rattle.std.proofs.Common.{◌≤◌, ◌/◌, ◌∙◌, ℕ, length, ap, refl, sym, subst, List}
 use Rattle.std.proofs.lemmas.Bool.{true≢false}
 use Rattle.fs_layout.specs.Bytes.{u32_of}
 use Rattle.fs_layout.specs.Commit.{AreTargets}
 use Rattle.fs_layout.specs.Header.{area_start, log_end}
-use Rattle.sector_disk.specs.Disk.{Image, sector}
+use Rattle.sector_disk.specs.Disk.{sector}
 use Rattle.redo_journal.proofs.Reading.{log_there, other_targets, too_many, found_commit}
 use Rattle.std.proofs.lemmas.Result.{IfOk-from_err}
 use Rattle.sector_disk.proofs.Moments.{reads_joined, reads_more, reads_nothing}
@@ -60,15 +60,12 @@ returns-then-is_spelled_by g c =
     record {
       commit =
           let disk = g.D.Disk.state c.args.disk.now in
-          let seen = c.read.ensures.same.narrowed.seen in
           let size = c.size-size.ensures ∙ c.read.ensures.same.narrowed.size in
           let ts = c.in_ok-commit-in-Some.commit in
-          let from = c.area_start.result in
-          found_commit c.args.header disk.size from (sector disk.seen 0) c.read.new.to (sector disk.seen) c.in-Some.counted ts
+          found_commit c.args.header disk.size c.area_start.result (sector disk.seen 0) c.read.new.to disk.seen (g.D.Disk.state c.read.new.self).seen c.in-Some.counted ts c.read.ensures.same.narrowed.seen
           c.requires.header.is refl c.in_ok-read.ensures.content (c.area_start.ensures ∙ ap (area_start c.args.header) c.area_in-area.ensures.value)
           c.in_ok-commit-in-Some.ensures.count
-          (subst (λ (l : Image). (k : ℕ) → 126 + k < length c.in-Some.counted → u32_of (sector l (from + k / 128)) (4 * (k % 128)) ≡ get_or ts (126 + k) 0) seen
-          c.in_ok-commit-in-Some.ensures.more)
+          c.in_ok-commit-in-Some.ensures.more
           (subst (λ k. AreTargets c.args.header k ts) size (c.is_valid_with.ensures.0 c.if-is_valid_with.true)) (c.is_spelled_by.ensures.0 c.if-is_spelled_by.true);
       area = c.area_in-area.ensures.value ∙ ap (λ (s : List ℕ). u32_of s 4 / 0x8000_0000) c.in_ok-read.ensures.content;
       reads = reads_joined read c.read_targets.ensures.reads;
@@ -81,16 +78,13 @@ returns-else-is_valid_with g c =
     record {
       commit =
           let disk = g.D.Disk.state c.args.disk.now in
-          let seen = c.read.ensures.same.narrowed.seen in
           let size = c.size-size.ensures ∙ c.read.ensures.same.narrowed.size in
           let ts = c.in_ok-commit-in-Some.commit in
-          let from = c.area_start.result in
-          other_targets c.args.header disk.size from (sector disk.seen 0) c.read.new.to (sector disk.seen) c.in-Some.counted ts (g.met.D.Disk.size_fits c.args.disk.now)
+          other_targets c.args.header disk.size c.area_start.result (sector disk.seen 0) c.read.new.to disk.seen (g.D.Disk.state c.read.new.self).seen c.in-Some.counted ts c.read.ensures.same.narrowed.seen (g.met.D.Disk.size_fits c.args.disk.now)
           c.requires.header.is refl c.in_ok-read.ensures.content (c.area_start.ensures ∙ ap (area_start c.args.header) c.area_in-area.ensures.value)
           c.in-Some.ensures.count c.in-Some.ensures.first
           c.in_ok-commit-in-Some.ensures.count c.in_ok-commit-in-Some.ensures.first
-          (subst (λ (l : Image). (k : ℕ) → 126 + k < length c.in-Some.counted → u32_of (sector l (from + k / 128)) (4 * (k % 128)) ≡ get_or ts (126 + k) 0) seen
-          c.in_ok-commit-in-Some.ensures.more)
+          c.in_ok-commit-in-Some.ensures.more
           (λ valid spelled. elim c.else-is_valid_with.branch [
             | else-is_valid_with-via-then-is_valid_with+else-is_spelled_by w ↦ true≢false (sym (w.is_spelled_by.ensures.1 spelled) ∙ w.if-is_spelled_by.false)
             | else-is_valid_with-via-else-is_valid_with w ↦
