@@ -27,7 +27,6 @@
 
 mod blocks;
 mod fault;
-mod free;
 mod link;
 mod read;
 mod release;
@@ -37,9 +36,8 @@ mod write;
 
 pub use blocks::Blocks;
 pub use fault::MapFault;
-pub use free::free_all;
 pub use link::new_link;
 pub use read::read_at;
-pub use release::release_all;
+pub use release::{free_all, release_all};
 pub use size::set_size;
 pub use write::{MAX_WRITE, overwrite, write_at};

@@ -1,21 +1,23 @@
-//! Giving back what an inode has for its bytes.
+//! Giving back what an inode has for its bytes, and freeing it with all that it owns.
 
-ghost use Rattle.std.specs.Prelude.{◌≡◌, ◌≤◌, ◌<◌, ◌+◌, ℕ, suc, [], OnOk};
+ghost use Rattle.std.specs.Prelude.{◌≡◌, ◌≤◌, ◌<◌, ◌+◌, ℕ, suc, [], OnOk, ◌≢◌, false};
 ghost use Rattle.fs_layout.specs.declared.inode.TheConstants.{MAX_BLOCKS, POINTER_LEVELS, SECTOR_POINTERS};
-ghost use Rattle.fs_layout.specs.Images.{HasPointers, Holds, holder, inode_at, own_count};
-ghost use Rattle.bit_alloc.specs.Bitmaps.{HasBitmaps};
-ghost use Rattle.bit_alloc.specs.Inodes.{IsSound};
+ghost use Rattle.fs_layout.specs.Images.{HasPointers, Holds, holder, inode_at, own_count, bit};
+ghost use Rattle.bit_alloc.specs.Bitmaps.{HasBitmaps, IsNumber};
+ghost use Rattle.bit_alloc.specs.Inodes.{IsSound, Touches};
 ghost use Rattle.bit_alloc.specs.Room.{HasSpare};
 ghost use Rattle.sector_txn.specs.Sectors.{SameStore};
 ghost use Rattle.sector_disk.specs.Disk.{HasCause};
 ghost use Rattle.block_map.specs.Contents.{AllowsSize, ChangesContent};
 ghost use Rattle.block_map.specs.Drops.{GivesParts, IsAmong, IsFor, IsFrom, OwnsOnlyData, first_above};
 ghost use Rattle.block_map.specs.Steps.{MayChange};
+ghost use Rattle.fs_layout.specs.Inode.{free_inode};
+ghost use Rattle.bit_alloc.specs.declared.bitmap.Bitmap.TheVariants.{Inodes};
 
 use crate::blocks::{BLOCK, read_pointers};
-use bit_alloc::{Bitmap, give_all};
-use fs_layout::{DIRECT_BLOCKS, Geometry, Inode, POINTER_LEVELS, SECTOR_POINTERS, own_count};
-use inode_table::write_inode;
+use bit_alloc::{Bitmap, give, give_all};
+use fs_layout::{DIRECT_BLOCKS, Geometry, Inode, Kind, POINTER_LEVELS, SECTOR_POINTERS, own_count};
+use inode_table::{give_sector, load, write_inode, write_inode};
 use sector_disk::DiskFault;
 use sector_txn::Sectors;
 
@@ -139,5 +141,28 @@ pub fn release_all<S: Sectors>(
     inode.direct = [0; DIRECT_BLOCKS as usize];
     inode.indirect = [0; POINTER_LEVELS];
     write_inode(s, geometry, ino, inode)?;
+    Ok(())
+}
+
+/// Frees inode `ino`, a file, a directory or a link, with the sectors of its blocks and of its ACLs: its 128 bytes
+/// become zero, and its bit is cleared.
+pub fn free_all<S: Sectors>(s: &mut S, geometry: Geometry, ino: u32) -> Result<(), DiskFault>
+    requires sound { IsSound geometry (S.state s.old) }
+    requires number { IsNumber geometry Inodes ino }
+    requires used { (inode_at geometry (S.state s.old).sectors ino).kind ≢ Kind.Free }
+    requires spare { HasSpare geometry 1 (S.state s.old) }
+    ensures store { SameStore (S.state s.old) (S.state s.new) }
+    ensures sound { OnOk result (IsSound geometry (S.state s.new)) }
+    ensures touches { OnOk result (Touches geometry ino 0 1 (S.state s.old) (S.state s.new)) }
+    ensures free { OnOk result (inode_at geometry (S.state s.new).sectors ino ≡ free_inode) }
+    ensures unused { OnOk result (bit (S.state s.new).sectors geometry.inode_bitmap ino ≡ false) }
+    ensures cause { HasCause (S.state s.old).disk (S.state s.new).disk result }
+{
+    let inode = load(s, geometry, ino)?;
+    give(s, geometry, Bitmap::Inodes, ino)?;
+    give_from(s, geometry, &inode, 0)?;
+    give_sector(s, geometry, inode.acl)?;
+    give_sector(s, geometry, inode.default_acl)?;
+    write_inode(s, geometry, ino, &Inode::FREE)?;
     Ok(())
 }

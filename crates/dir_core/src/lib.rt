@@ -22,9 +22,7 @@
 #![tactic(auto)]
 
 mod fault;
-mod listing;
 mod names;
 
 pub use fault::DirFault;
-pub use listing::list;
-pub use names::{insert, insert_new, is_empty, lookup, remove, rename, replace};
+pub use names::{insert, insert_new, is_empty, list, lookup, remove, rename, replace};

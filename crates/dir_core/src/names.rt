@@ -1,13 +1,13 @@
-//! The names of a directory: the slot of each is found, and a name is added, removed, led to another inode or replaced by another.
+//! The names of a directory: the slot of each is found, all are listed, and a name is added, removed, led to another inode or replaced.
 
-ghost use Rattle.std.specs.Prelude.{◌≡◌, ◌↔◌, ◌≤◌, ◌<◌, ◌+◌, ◌^◌, List, length, slice_index, IsTrue, Some, IfOk, IfSome, ℕ, [], ◌≢◌, ◌-◌, ◌*◌, slice_index_or, take, set, None, IfErr, OnOk};
-ghost use Rattle.fs_layout.specs.Directories.{NamedInode, HasNames, IsName, HaveDistinctNames, slot_bytes, slots_bytes};
-ghost use Rattle.fs_layout.specs.Version.{max_name, slot_size, max_names};
+ghost use Rattle.std.specs.Prelude.{◌≡◌, ◌↔◌, ◌≤◌, ◌<◌, ◌+◌, ◌^◌, List, length, slice_index, IsTrue, Some, IfOk, IfSome, ℕ, [], ◌≢◌, ◌-◌, ◌*◌, slice_index_or, take, set, None, IfErr, OnOk, ◌⊎◌, ◌/◌, ◌%◌, map};
+ghost use Rattle.fs_layout.specs.Directories.{NamedInode, HasNames, IsName, HaveDistinctNames, slot_bytes, slots_bytes, names_of_slots};
+ghost use Rattle.fs_layout.specs.Version.{max_name, slot_size, max_names, block_slots};
 ghost use Rattle.fs_layout.specs.declared.version.Version.{Version};
 ghost use Rattle.sector_txn.specs.Sectors.{IsUnchanged, SameStore};
 ghost use Rattle.sector_disk.specs.Disk.{HasCause};
-ghost use Rattle.block_map.specs.Blocks.{IsWithin};
-ghost use Rattle.dir_core.specs.Slots.{HasSlots, IsSlotAt, IsFoundInBlock, IsFoundIn};
+ghost use Rattle.block_map.specs.Blocks.{IsWithin, IsAtHand};
+ghost use Rattle.dir_core.specs.Slots.{HasSlots, IsSlotAt, IsFoundInBlock, IsFoundIn, IsBlock, name_entry};
 ghost use Rattle.fs_layout.specs.Bytes.{SectorMap};
 ghost use Rattle.fs_layout.specs.Maps.{get, name_cmp, with_entry, without};
 ghost use Rattle.bit_alloc.specs.Inodes.{IsSound};
@@ -17,13 +17,15 @@ ghost use Rattle.bit_alloc.specs.Room.{HasSpare};
 ghost use Rattle.bit_alloc.specs.Faults.{HasCauseOf};
 ghost use Rattle.block_map.specs.Contents.{ChangesContent};
 ghost use Rattle.dir_core.specs.Faults.{taken_for, WhyNotAdded, WhyNotChanged};
+ghost use Rattle.dir_core.specs.declared.fault.DirFault.TheVariants.{DiskFault as Device, OutOfMemory};
 
 use crate::DirFault;
-use block_map::{Blocks, overwrite, read_at, set_size, write_at};
+use block_map::{Blocks, Blocks, overwrite, read_at, set_size, write_at};
 use byteorder::{ByteOrder, LittleEndian};
 use fs_layout::{Geometry, Inode, MAX_SLOT_SIZE, Slot, Version};
 use sector_disk::DiskFault;
 use sector_txn::Sectors;
+use std::alloc::Global;
 
 /// The slot that has a name.
 #[derive(Clone, Copy)]
@@ -533,4 +535,110 @@ pub fn rename<S: Sectors>(
     let found = named_slot(s, geometry, inode, name)?;
     set_slot(s, geometry, ino, inode, found.slot, new_name, found.ino)?;
     Ok(())
+}
+
+// Reads the block of a slot, where the slot is the block's first; else the block is at hand.
+fn read_block_of<S: Sectors>(
+    s: &mut S,
+    version: Version,
+    blocks: &mut Blocks,
+    slot: u64,
+    block: &mut [u8; 512],
+) -> Result<(), DiskFault>
+    requires within { IsWithin (S.state s.old).header (S.state s.old).disk.size (S.state s.old).sectors blocks.old.inode }
+    requires pointers { IsAtHand (S.state s.old).sectors blocks.old }
+    requires at_hand { slot % block_slots version ≢ 0 → IsBlock (S.state s.old).sectors blocks.old.inode
+        (slot / block_slots version) block.old }
+    ensures inode { blocks.new.inode ≡ blocks.old.inode }
+    ensures pointers { OnOk result (IsAtHand (S.state s.old).sectors blocks.new) }
+    ensures block { OnOk result (IsBlock (S.state s.old).sectors blocks.old.inode (slot / block_slots version) block.new) }
+    ensures same { IsUnchanged (S.state s.old) (S.state s.new) }
+    ensures cause { HasCause (S.state s.old).disk (S.state s.new).disk result }
+{
+    let block_slots = version.block_slots() as u64;
+    if slot % block_slots == 0 {
+        blocks.read(s, slot / block_slots, block)?;
+    }
+    Ok(())
+}
+
+// The slots of a directory, in their order.
+fn read_slots<S: Sectors>(
+    alloc: Global,
+    s: &mut S,
+    version: Version,
+    inode: &Inode,
+) -> Result<Vec<Slot>, DirFault>
+    requires within { IsWithin (S.state s.old).header (S.state s.old).disk.size (S.state s.old).sectors inode.now }
+    requires directory { (slots : List NamedInode) × HasSlots version (S.state s.old).sectors inode.now slots }
+    ensures found { IfOk result (λ found. (slots : List NamedInode) → HasSlots version (S.state s.old).sectors inode.now slots
+        → found.items ≡ slots) }
+    ensures faults { IfErr result (λ e. (e ≡ Device) ⊎ (e ≡ OutOfMemory)) }
+    ensures same { IsUnchanged (S.state s.old) (S.state s.new) }
+    ensures cause { HasCauseOf DirFault.DiskFault (S.state s.old).disk (S.state s.new).disk result }
+{
+    let slot_size = version.slot_size();
+    let block_slots = version.block_slots() as u64;
+    let count = inode.size / slot_size as u64;
+    let Ok(mut slots) = Vec::with_capacity(alloc, count as usize) else {
+        return Err(DirFault::OutOfMemory);
+    };
+    let mut blocks = Blocks::new(inode);
+    let mut block = [0; 512];
+    for k in 0..count {
+        read_block_of(s, version, &mut blocks, k, &mut block)?;
+        let at = slot_size * (k % block_slots) as usize;
+        let Ok(slot) = Slot::read_in(version, &block, at) else {
+            unreachable!()
+        };
+        let Ok(()) = slots.push(slot) else {
+            return Err(DirFault::OutOfMemory);
+        };
+    }
+    Ok(slots)
+}
+
+// Brings slots into the bytewise order of their names.
+fn sort_by_name(slots: &mut [Slot])
+    requires { HaveDistinctNames slots.old }
+    ensures { map name_entry slots.new ≡ names_of_slots slots.old }
+{
+    slots.sort_unstable_by(|a, b| a.name().cmp(b.name()));
+}
+
+// Leaves word where each name stands: whoever lists a directory asks for its names next.
+fn leave_hints<S: Sectors>(s: &mut S, inode: &Inode, slots: &[Slot])
+    ensures { IsUnchanged (S.state s.old) (S.state s.new) }
+{
+    // One block needs no hint.
+    if inode.size <= 512 {
+        return;
+    }
+    for (k, slot) in slots.iter().enumerate() {
+        s.leave_hint(hint_key(inode, slot.name()), k as u64);
+    }
+}
+
+/// All names of a directory of the table, each with its inode, in the bytewise order of the names.
+///
+/// Room for all of them is taken first. It is refused by [`DirFault::DiskFault`] and [`DirFault::OutOfMemory`] alone.
+pub fn list<S: Sectors>(
+    alloc: Global,
+    s: &mut S,
+    geometry: Geometry,
+    inode: &Inode,
+) -> Result<Vec<Slot>, DirFault>
+    requires sound { IsSound geometry (S.state s.old) }
+    requires there { IsInodeOf geometry (S.state s.old).sectors inode.now }
+    requires directory { (names : List (List ℕ × ℕ)) × HasNames geometry.version (S.state s.old).sectors inode.now names }
+    ensures found { IfOk result (λ found. (names : List (List ℕ × ℕ)) → HasNames geometry.version (S.state s.old).sectors inode.now names
+        → map name_entry found.items ≡ names) }
+    ensures faults { IfErr result (λ e. (e ≡ Device) ⊎ (e ≡ OutOfMemory)) }
+    ensures same { IsUnchanged (S.state s.old) (S.state s.new) }
+    ensures cause { HasCauseOf DirFault.DiskFault (S.state s.old).disk (S.state s.new).disk result }
+{
+    let mut slots = read_slots(alloc, s, geometry.version, inode)?;
+    leave_hints(s, inode, &slots);
+    sort_by_name(&mut slots);
+    Ok(slots)
 }

@@ -9,7 +9,6 @@
 
 mod attributes;
 mod listing;
-mod making;
 mod opening;
 mod performing;
 mod process;

@@ -5,12 +5,12 @@
 #![tactic(auto)]
 
 mod laws;
-mod links;
 mod paths;
 mod walker;
 
 pub use fs_model::{Form, Found, Last};
 pub use laws::inodes_say_what_stands;
-pub use links::read_target;
 pub use paths::{MAX_PATH, check_path};
-pub use walker::{MAX_LINKS, ends_with_slash, load_inode, permission, resolve, search, walk};
+pub use walker::{
+    MAX_LINKS, ends_with_slash, load_inode, permission, read_target, resolve, search, walk,
+};

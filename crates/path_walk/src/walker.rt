@@ -1,4 +1,4 @@
-//! The walk of a path: its components, what it reads of inodes and directories, whom it asks for search, and how far it has come.
+//! The walk of a path: its components, what it reads of inodes, directories and links, whom it asks for search, and how far it has come.
 
 ghost use Rattle.std.specs.Prelude.{◌≡◌, ◌==◌, ◌≤◌, ◌&&◌, ◌||◌, [], not, length, drop, position, MatchOption, ◌<◌, ℕ, Some, Ok, IfOk, IfErr, IsOk, ◌+◌, ◌^◌, ◌++◌, ◌⊎◌, ◌∷◌, List, true, false, OnOk, MatchResult, None, Err};
 ghost use Rattle.fs_model.specs.Parts.{parts_of, start_of, begins_with_slash, ends_with_slash, components_of, is_empty, path_checks};
@@ -29,15 +29,16 @@ ghost use Rattle.path_walk.specs.Rests.{found_at, last_of_walk};
 ghost use Rattle.path_walk.specs.Stages.{names_ahead, last_done, StandsAt, IsNextOf, IsStart, IsBehind, IsStep, IsWay, arrival_of};
 ghost use Rattle.fs_model.specs.Limits.{path_limit};
 ghost use Rattle.path_walk.specs.Walked.{walk_of};
+ghost use Rattle.fs_layout.specs.declared.inode.TheConstants.{MAX_LINK_SIZE};
 
-use crate::links::read_target;
 use crate::paths::check_path;
+use block_map::read_at;
 use dir_core::lookup;
 use fs_cred::{
     Cred, Denial, Errno, Need, Node, NodeKind, Refusal, Verdict, decide, decide_by_mode,
 };
-use fs_layout::{Geometry, Inode, Kind, ROOT};
-use fs_model::{Form, Found, Last, Name, Path};
+use fs_layout::{Geometry, Inode, Kind, MAX_LINK_SIZE, ROOT};
+use fs_model::{Form, Found, Last, Name, Path, Path};
 use inode_table::{LoadAclFault, load, load_acl};
 use posix_acl::Perms;
 use sector_txn::Sectors;
@@ -601,4 +602,31 @@ pub fn resolve<S: Sectors>(
 {
     check_path(path)?;
     walk(alloc, s, geometry, cred, cwd, path, form, 1)
+}
+
+/// Reads the target of a symbolic link of the inode table. ENOMEM where it finds no memory.
+pub fn read_target<S: Sectors>(
+    alloc: Global,
+    s: &mut S,
+    geometry: Geometry,
+    inode: &Inode,
+) -> Result<Path, Refusal>
+    requires sound { IsSound geometry (S.state s.old) }
+    requires there { IsInodeOf geometry (S.state s.old).sectors inode.now }
+    requires link { inode.now.kind ≡ Kind.Link }
+    ensures each { (target : List ℕ) → Holds (S.state s.old).sectors inode.now target
+        → IsAnswered (S.state s.old).disk (S.state s.new).disk (Ok target) result }
+    ensures short { IfOk result (λ target. length target ≤ MAX_LINK_SIZE) }
+    ensures err { IfErr result (Interrupts (S.state s.old).disk (S.state s.new).disk) }
+    ensures same { IsUnchanged (S.state s.old) (S.state s.new) }
+    ensures cause { HasCauseOf (Refusal.Failed Errno.EIO) (S.state s.old).disk (S.state s.new).disk result }
+{
+    let mut bytes = [0; MAX_LINK_SIZE as usize];
+    let Ok(count) = read_at(s, inode, 0, &mut bytes) else {
+        return Err(Refusal::Failed(Errno::EIO));
+    };
+    match Path::from_slice(alloc, &bytes[..count]) {
+        Ok(target) => Ok(target),
+        Err(_) => Err(Refusal::Failed(Errno::ENOMEM)),
+    }
 }

@@ -13,7 +13,7 @@ use Rattle.call_parts.proofs.Removed.{taken_after}
 use Rattle.file_calls.proofs.OpenedTimes.{reached, prepared_may_touch}
 use Rattle.file_calls.proofs.OpenFound.{not_opened, opening_broken, opening_broken_later}
 use Rattle.file_calls.proofs.OpenMade.{directory_there, dir_default, none_is_there, make_refused, asked_of_it, can_make, finds_kept, asked_later, file_prepares}
-use Rattle.file_calls.proofs.making.open_new.Goals as goal
+use Rattle.file_calls.proofs.opening.open_new.Goals as goal
 
 pub returns-in_err-check_new : goal.returns-in_err-check_new
 returns-in_err-check_new g c =

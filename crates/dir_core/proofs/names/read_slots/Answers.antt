@@ -11,7 +11,7 @@ use Rattle.dir_core.proofs.SlotPlaces.{first_of_block, place_within, slot_ends_w
 use Rattle.dir_core.proofs.Pieces.{slot_there, slots_are}
 use Rattle.dir_core.proofs.Scans.{within_later, block_later, block_before, block_stays}
 use Rattle.bit_alloc.proofs.Passing.{through_try, other_fault_on, no_fault_of, not_of_disk}
-use Rattle.dir_core.proofs.listing.read_slots.Goals as goal
+use Rattle.dir_core.proofs.names.read_slots.Goals as goal
 
 pub read_block_of-requires-clause-within : goal.read_block_of-requires-clause-within
 read_block_of-requires-clause-within g c =

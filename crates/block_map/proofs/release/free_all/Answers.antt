@@ -8,7 +8,7 @@ use Rattle.inode_table.proofs.StoredAcls.{acl_in_data, default_acl_in_data}
 use Rattle.sector_txn.proofs.TransactionRuns.{store_joined, store_same}
 use Rattle.block_map.proofs.Freeings.{cleared_puts, given_puts, access_puts, default_puts, may_change_then, IsFreed, all_freed}
 use Rattle.bit_alloc.proofs.Passing.{fault_on, no_fault}
-use Rattle.block_map.proofs.free.free_all.Goals as goal
+use Rattle.block_map.proofs.release.free_all.Goals as goal
 
 pub give-requires-clause-bitmaps : goal.give-requires-clause-bitmaps
 give-requires-clause-bitmaps g c =

@@ -5,7 +5,7 @@ use Rattle.call_parts.specs.NewNodes.{file_made}
 use Rattle.call_parts.proofs.Alterings.{fails, may_alter_then, not_altered_then}
 use Rattle.call_parts.proofs.NewFile.{dir_kept, file_fits, file_taken, takes_few}
 use Rattle.call_parts.proofs.NewNames.{room_then, named_new, was_taken}
-use Rattle.file_calls.proofs.making.make_file.Goals as goal
+use Rattle.file_calls.proofs.opening.make_file.Goals as goal
 
 pub new_inode-requires-clause-fits : goal.new_inode-requires-clause-fits
 new_inode-requires-clause-fits g c =

@@ -4,7 +4,7 @@ use Rattle.fs_layout.specs.Directories.{NamedInode}
 use Rattle.sector_txn.specs.Sectors.{IsUnchanged}
 use Rattle.block_map.specs.Blocks.{IsAtHand}
 use Rattle.dir_core.specs.Slots.{HasSlots, IsBlock}
-use Rattle.dir_core.proofs.listing.read_slots.Given as goal
+use Rattle.dir_core.proofs.names.read_slots.Given as goal
 
 abbrev pub invariant-loop-k : goal.invariant-loop-k
 invariant-loop-k g l = record {

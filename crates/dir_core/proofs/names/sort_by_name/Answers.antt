@@ -5,7 +5,7 @@ use Rattle.std.proofs.lemmas.List.Sorted.{ranks_by, answers_always}
 use Rattle.fs_layout.specs.Maps.{name_cmp}
 use Rattle.fs_layout.specs.Directories.{NamedInode}
 use Rattle.dir_core.proofs.Entries.{sorted_entries}
-use Rattle.dir_core.proofs.listing.sort_by_name.Goals as goal
+use Rattle.dir_core.proofs.names.sort_by_name.Goals as goal
 
 pub returns : goal.returns
 returns c =

@@ -4,7 +4,7 @@ use Rattle.dir_core.proofs.Changing.{slots_there}
 use Rattle.block_map.proofs.Runs.{unchanged_joined}
 use Rattle.dir_core.proofs.Scans.{inode_within}
 use Rattle.bit_alloc.proofs.Passing.{no_fault_of}
-use Rattle.dir_core.proofs.listing.list.Goals as goal
+use Rattle.dir_core.proofs.names.list.Goals as goal
 
 pub read_slots-requires-clause-within : goal.read_slots-requires-clause-within
 read_slots-requires-clause-within g c = inode_within c.requires.sound c.requires.there

@@ -2,7 +2,7 @@ use Rattle.std.proofs.Common.{◌≤◌, ℕ, List, length, Ok, sym, ap, ◌∙�
 use Rattle.dir_core.proofs.Scans.{inode_within}
 use Rattle.std.proofs.lemmas.List.{length-take-le}
 use Rattle.path_walk.proofs.Reaching.{read_whole, link_short}
-use Rattle.path_walk.proofs.links.read_target.Goals as goal
+use Rattle.path_walk.proofs.walker.read_target.Goals as goal
 
 pub read_at-requires : goal.read_at-requires
 read_at-requires g c = record { within = inode_within c.requires.sound c.requires.there }
