@@ -116,7 +116,7 @@ fn are_answered(
 }
 
 // Which call, how often, and what the first of them answers.
-static TABLES: [(Step, u64, Result<u64, Errno>); 18] = [
+static CALLS: [(Step, u64, Result<u64, Errno>); 50] = [
     // Numbers rise from 1, and there are 64 processes.
     (Step::Spawn, 64, Ok(1)),
     (Step::Spawn, 2, Err(Errno::EAGAIN)),
@@ -137,10 +137,6 @@ static TABLES: [(Step, u64, Result<u64, Errno>); 18] = [
     (Step::Open(0, 5), 1, Err(Errno::ESRCH)),
     (Step::Close(1, 32), 1, Err(Errno::EBADF)),
     (Step::Close(65, 0), 1, Err(Errno::ESRCH)),
-];
-
-// Then: offsets, umasks and current directories.
-static STATES: [(Step, u64, Result<u64, Errno>); 16] = [
     // Each descriptor has an offset of its own.
     (Step::Offset(1, 3), 1, Ok(0)),
     (Step::Seek(1, 3, 4096), 1, Ok(4096)),
@@ -160,10 +156,6 @@ static STATES: [(Step, u64, Result<u64, Errno>); 16] = [
     (Step::InUse(9), 1, Ok(1)),
     (Step::IsOpen(9), 1, Ok(0)),
     (Step::SetCwd(65, 9), 1, Err(Errno::ESRCH)),
-];
-
-// Then: what stays open.
-static LEFT: [(Step, u64, Result<u64, Errno>); 16] = [
     // What stays open after a close, and after an exit.
     (Step::IsOpenBesides(1, 3, 6), 1, Ok(0)),
     (Step::IsOpenBesides(1, 0, 6), 1, Ok(1)),
@@ -184,15 +176,10 @@ static LEFT: [(Step, u64, Result<u64, Errno>); 16] = [
 ];
 
 // The first row that is answered otherwise.
-fn first_other(procs: &mut Procs, alloc: Global) -> Option<(usize, usize)> {
-    for (part, rows) in [TABLES.as_slice(), STATES.as_slice(), LEFT.as_slice()]
-        .iter()
-        .enumerate()
-    {
-        for (row, (step, count, first)) in rows.iter().enumerate() {
-            if !are_answered(procs, alloc, *step, *count, *first) {
-                return Some((part, row));
-            }
+fn first_other(procs: &mut Procs, alloc: Global) -> Option<usize> {
+    for (row, &(step, count, first)) in CALLS.iter().enumerate() {
+        if !are_answered(procs, alloc, step, count, first) {
+            return Some(row);
         }
     }
     None
