@@ -1,5 +1,5 @@
 -- What a stop of a new disk leaves.
-use Rattle.std.proofs.Common.{ℕ, length, sym, subst}
+use Rattle.std.proofs.Common.{ℕ, sym, subst}
 use Rattle.sector_disk.specs.Disk.{DiskState, Image, IsImage, IsStable}
 use Rattle.sector_disk.proofs.Moments.{stable_image}
 use Rattle.fs_images.specs.Making.{IsNewDisk}

@@ -14,7 +14,7 @@ use sector_disk::{FuseDisk, MemDisk};
 use std::alloc::Global;
 use std::test::Fail;
 
-// The law on calls, of that of a line.
+// The law on calls, of the call of a line.
 fn law_on(alloc: Global, line: &[u8]) -> Result<(), Fail> {
     let call = call_of(alloc, line)?;
     call_is_in_range(&call);

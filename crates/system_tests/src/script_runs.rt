@@ -146,6 +146,7 @@ fn push_run(alloc: Global, seen: &mut String, script: Source<'_>) -> Result<(), 
     Ok(pushed??)
 }
 
+// Whether a script on an empty file system comes to that.
 fn comes_to(alloc: Global, script: Source<'_>, wanted: &str) -> Result<bool, Fail> {
     let mut seen = String::new(alloc);
     let pushed = push_run(alloc, &mut seen, script);
@@ -322,8 +323,8 @@ static WRITTEN: &str = "52 Some(52) false 2 lines, 0 faults\n\
                         75 Some(75) false 1 lines, 0 faults\n\
                         85 None true WriteFault\n";
 
-// Whether the scripts come to that.
-fn flushes(alloc: Global) -> Result<bool, Fail> {
+// Whether the scripts come to that on a new file system.
+fn are_flushed(alloc: Global) -> Result<bool, Fail> {
     let mut seen = String::new(alloc);
     let pushed = push_writers(alloc, &mut seen);
     let is_wanted = seen.as_str() == WRITTEN;
@@ -334,6 +335,6 @@ fn flushes(alloc: Global) -> Result<bool, Fail> {
 
 #[test]
 fn a_run_flushes_its_writer(rt: HostRuntime) -> Result<(), Fail> {
-    assert!(rt; flushes(rt.alloc())?);
+    assert!(rt; are_flushed(rt.alloc())?);
     Ok(())
 }

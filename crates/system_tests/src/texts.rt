@@ -251,7 +251,7 @@ fn names_of(alloc: Global, names: &[(&[u8], u32)]) -> Result<Reply, AllocError> 
     Ok(Reply::Names(Listing::new(listed)))
 }
 
-// A reply that owns bytes; and done, where something else is said.
+// A reply that owns bytes, or done.
 fn owning(alloc: Global, said: Said) -> Result<Reply, AllocError> {
     match said {
         Said::Data(bytes) => Ok(Reply::Data(Bytes::from_slice(alloc, bytes)?)),
@@ -297,7 +297,7 @@ fn has_text(alloc: Global, said: Said, wanted: &str) -> Result<bool, AllocError>
     Ok(text.as_str() == wanted)
 }
 
-// The first text that nothing has that should have it.
+// The first text that its fault or reply doesn't have.
 fn first_other(alloc: Global) -> Result<Option<&'static str>, AllocError> {
     for rows in [
         FAULTS.as_slice(),
