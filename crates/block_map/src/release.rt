@@ -17,7 +17,7 @@ ghost use Rattle.bit_alloc.specs.declared.bitmap.Bitmap.TheVariants.{Inodes};
 use crate::blocks::{BLOCK, read_pointers};
 use bit_alloc::{Bitmap, give, give_all};
 use fs_layout::{DIRECT_BLOCKS, Geometry, Inode, Kind, POINTER_LEVELS, SECTOR_POINTERS, own_count};
-use inode_table::{give_sector, load, write_inode, write_inode};
+use inode_table::{give_sector, load, write_inode};
 use sector_disk::DiskFault;
 use sector_txn::Sectors;
 

@@ -20,7 +20,7 @@ ghost use Rattle.dir_core.specs.Faults.{taken_for, WhyNotAdded, WhyNotChanged};
 ghost use Rattle.dir_core.specs.declared.fault.DirFault.TheVariants.{DiskFault as Device, OutOfMemory};
 
 use crate::DirFault;
-use block_map::{Blocks, Blocks, overwrite, read_at, set_size, write_at};
+use block_map::{Blocks, overwrite, read_at, set_size, write_at};
 use byteorder::{ByteOrder, LittleEndian};
 use fs_layout::{Geometry, Inode, MAX_SLOT_SIZE, Slot, Version};
 use sector_disk::DiskFault;

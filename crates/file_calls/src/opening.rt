@@ -28,7 +28,7 @@ use fs_cred::{Cred, Errno, Refusal};
 use fs_layout::{Geometry, Inode, Kind};
 use fs_model::{Flags, Form, Found, Path, Reply, Touch};
 use inode_table::new_inode;
-use open_files::{Descriptor, Process, Process, Procs};
+use open_files::{Descriptor, Process, Procs};
 use path_walk::{check_path, ends_with_slash, load_inode, walk};
 use posix_acl::{Acl, Perms};
 use sector_txn::Sectors;

@@ -3,6 +3,7 @@
 mod acls;
 mod credentials;
 mod decisions;
+mod geometries;
 mod headers;
 mod hex;
 mod kernel_replies;

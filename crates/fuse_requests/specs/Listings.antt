@@ -1,5 +1,5 @@
 -- What is promised of a listing whose names are looked up.
---     HasRoom        there is room for a listing
+--     HasListingRoom        there is room for a listing
 --     Listed        a session has the names of an open directory
 --     ToldOne        one of them was looked up, and its record was added
 use Rattle.std.specs.Prelude.{◌≡◌, ℕ, ◌+◌, ◌-◌, ◌*◌, ◌≤◌, Bool, List, [], ◌++◌, length, Some, Result, Ok}
@@ -16,8 +16,8 @@ use Rattle.fuse_sessions.specs.declared.session.Session.{Session}
 use Rattle.fuse_sessions.specs.Performing.{Did}
 
 -- so many bytes can be told where none is yet, and copies made of as many names as may have records in them
-abbrev pub HasRoom : ℕ → List ℕ → ℕ → ℕ → Type 0
-HasRoom size bytes capacity names = (bytes ≡ []) × (size ≤ capacity) × (size ≤ LEAST_RECORD * names + (LEAST_RECORD - 1))
+abbrev pub HasListingRoom : ℕ → List ℕ → ℕ → ℕ → Type 0
+HasListingRoom size bytes capacity names = (bytes ≡ []) × (size ≤ capacity) × (size ≤ LEAST_RECORD * names + (LEAST_RECORD - 1))
 
 -- the work has given the names that are kept of the open directory
 pub record Listed {M : Type 0} (Serves : M → Event → Reply → M → Type 0) (work : Work (List (List ℕ × ℕ))) (old new : Session M) (handle : ℕ) : Type 0 where

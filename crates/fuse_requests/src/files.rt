@@ -239,7 +239,8 @@ fn tell_created<M: Machine>(
     opened: Opened,
 ) -> Replied
     requires { 5 ≤ session.old.server.room }
-    ensures { Did M.Serves (tell_created place.now place.name_valid dentry opened.is_new opened.is_cut opened.handle opened.seen) session.old session.new result }
+    ensures { Did M.Serves (tell_created place.now place.name_valid dentry opened.is_new opened.is_cut opened.handle opened.seen)
+        session.old session.new result }
 {
     let Opened {
         handle,

@@ -6,7 +6,7 @@ ghost use Rattle.fuse_plans.specs.ListingOrder.{behind, offset_behind};
 ghost use Rattle.fuse_plans.specs.Works.{attempt};
 ghost use Rattle.fuse_plans.specs.ListingPlans.{find_in_place, find_listed, look_up_names, names_within, records_bytes, LookedUp, read_directory_plus};
 ghost use Rattle.fuse_sessions.specs.Listings.{IsCopy};
-ghost use Rattle.fuse_requests.specs.Listings.{HasRoom, ToldOne};
+ghost use Rattle.fuse_requests.specs.Listings.{HasListingRoom, ToldOne};
 ghost use Rattle.fuse_sessions.specs.Performing.{Did};
 
 use crate::directories::list_kept;
@@ -108,7 +108,7 @@ fn look_up_names<M: Machine>(
     room: Vec<u8>,
     names: NameRoom,
 ) -> Bytes
-    requires fits { HasRoom extent.size room.items (vec_capacity room) names }
+    requires fits { HasListingRoom extent.size room.items (vec_capacity room) names }
     requires room { 2 * names ≤ session.old.server.room }
     ensures { (listing : List (List ℕ × ℕ)) → listing_of session.old.server.server extent.handle ≡ Some listing →
         (found : List LookedUp) × (result ≡ records_bytes found)
@@ -139,7 +139,7 @@ pub(crate) fn read_directory_plus<M: Machine>(
     room: Vec<u8>,
     names: NameRoom,
 ) -> Replied
-    requires fits { HasRoom extent.size room.items (vec_capacity room) names }
+    requires fits { HasListingRoom extent.size room.items (vec_capacity room) names }
     requires room { 2 * names + 1 ≤ session.old.server.room }
     ensures { let asked = asked.entry.now in
         Did M.Serves (read_directory_plus asked.needs_nobody asked.node extent) session.old session.new result }

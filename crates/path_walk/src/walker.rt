@@ -38,7 +38,7 @@ use fs_cred::{
     Cred, Denial, Errno, Need, Node, NodeKind, Refusal, Verdict, decide, decide_by_mode,
 };
 use fs_layout::{Geometry, Inode, Kind, MAX_LINK_SIZE, ROOT};
-use fs_model::{Form, Found, Last, Name, Path, Path};
+use fs_model::{Form, Found, Last, Name, Path};
 use inode_table::{LoadAclFault, load, load_acl};
 use posix_acl::Perms;
 use sector_txn::Sectors;
