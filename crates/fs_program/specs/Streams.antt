@@ -2,7 +2,7 @@
 --     Reading, reading        of a reader
 --     Writing, writing        of a writer
 use Rattle.std.specs.Prelude.{ℕ, Bool, List, Option}
-use Rattle.fs_shell.specs.declared.watched.Watched.{Watched}
+use Rattle.fs_shell.specs.declared.runner.Watched.{Watched}
 
 -- what is to be read, where that is known, and whether a call has failed, before and then
 pub record Reading : Type 0 where

@@ -6,7 +6,7 @@ ghost use Rattle.fs_shell.specs.Runs.{answer_text};
 ghost use Rattle.fs_shell.specs.Watching.{FailsWhere};
 
 use crate::fault::RunFault;
-use crate::watched::Watched;
+use crate::runner::Watched;
 use fs_lines::{LineFault, fault_text, reply_text};
 use fs_model::Reply;
 use std::alloc::Global;

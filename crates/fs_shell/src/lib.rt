@@ -7,11 +7,9 @@ mod answer;
 mod fault;
 mod runner;
 mod script;
-mod watched;
 
 pub use answer::{Answer, Count};
 pub use fault::RunFault;
 pub use fs_lines::{Line, LineFault, parse_line, reply_text};
-pub use runner::run;
+pub use runner::{Watched, run};
 pub use script::MAX_SCRIPT;
-pub use watched::Watched;

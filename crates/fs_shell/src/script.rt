@@ -8,7 +8,7 @@ ghost use Rattle.fs_shell.specs.Watching.{FailsWhere};
 ghost use Rattle.fs_shell.specs.Scripts.{bytes_left, script_limit, kept_front, FindsEnd, IsOver, ReadsLine};
 
 use crate::fault::RunFault;
-use crate::watched::Watched;
+use crate::runner::Watched;
 use fs_lines::{MAX_LINE, len_before};
 use std::alloc::{AllocError, Global};
 use std::io::Read;

@@ -5,8 +5,6 @@
 #![tactic(auto)]
 
 #[cfg(test)]
-mod failures;
-#[cfg(test)]
 mod jobs;
 #[cfg(test)]
 mod report;
