@@ -1,6 +1,7 @@
 -- A file that follows its disk: what a run and a sync of the file keep.
 use Rattle.std.proofs.Common.{◌≡◌, ◌⊎◌, inl, inr, ⊎_elim, ℕ, zero, ◌+◌, ◌-◌, ◌<◌, ◌≤◌, Bool, true, false, List, [], ◌∷◌, ◌++◌, length, drop, take, refl, sym, ◌∙◌, ap, subst, arith, get_or, get_or-set_other, length-drop, length-take, slice_index, replicate}
 use Rattle.std.specs.Prelude.{Option, Some, None, IfSome, All, Contains, Result, Ok, Err, OnOk, IsPermutation, slice_range, slice_set, if◌then◌else◌}
+use Rattle.std.specs.Prelude.{min}
 use Rattle.std.specs.Result.{is_ok}
 use Rattle.std.proofs.Math.Logic.{∥∥₁_map}
 use Rattle.std.proofs.lemmas.Bool.{cases_lt, cases_eq}
@@ -347,6 +348,13 @@ read_none count sectors file zeros = record {
     nothing : (file : Option Held) → IfSome file (λ held. (n : ℕ) → n < 0 → sector (file_seen held) n ≡ sector sectors n)
     nothing None = tt
     nothing (Some held) = λ n below. absurd (omega (arith, below))
+
+-- a piece is as long as the buffer, or as what is left
+pub piece_fits : (at count len : ℕ) (buffer piece : Image) → at ≤ count
+    → len ≡ min (length buffer) (count - at) → length piece ≡ length (take len buffer)
+    → (length piece ≡ len) × (at + length piece ≤ count)
+piece_fits at count len buffer piece fits is size =
+    (omega (arith, is, size, length-take len buffer), omega (arith, fits, is, size, length-take len buffer))
 
 pub read_more : (at count end : ℕ) (piece sectors more : Image) (first old new : Option Held) → IsReadTo at count sectors first old → at + length piece ≤ count → end ≡ at + length piece
     → new ≡ old → IfSome new (HasRun at piece) → IsRunSet at piece sectors more → IsReadTo end count more first new

@@ -1,10 +1,11 @@
 -- Which content of a sector a stop picks, from the contents that steps replaced.
+use Rattle.std.proofs.Common.{◌≢◌, ◌-◌}
 use Rattle.std.proofs.Common.{◌≡◌, inl, inr, ⊎_elim, ℕ, suc, ◌+◌, ◌<◌, ◌≤◌, ◌%◌, List, [], ◌∷◌, ◌++◌, length, drop, refl, sym, ◌∙◌, ap, arith, slice_set, get_or, get_or-set_other, length-append}
-use Rattle.std.specs.Prelude.{Bool, nat_eq, min, if◌then◌else◌}
+use Rattle.std.specs.Prelude.{Bool, true, false, nat_eq, min, if◌then◌else◌}
 use Rattle.std.proofs.lemmas.Bool.{cases_eq}
 use Rattle.std.proofs.lemmas.Bool.Decides.{eqb_tells}
 use Rattle.std.proofs.lemmas.Grind.{get_or-set_at}
-use Rattle.std.proofs.lemmas.List.{nil_from_length}
+use Rattle.std.proofs.lemmas.List.{at_drop_more, at_drop_all, nil_from_length}
 use Rattle.sector_disk.specs.Disk.{Image, sector}
 use Rattle.sector_disk.specs.Record.{Held}
 use Rattle.sector_disk.specs.Picks.{writes_to, choices, written_before, IsPicked}
@@ -21,6 +22,76 @@ IsCounted steps n i count = (count ≤ i) × (count + length (replaced_of (drop 
 pub record IsLeft (steps : List Step) (n number : ℕ) (last : List ℕ) (i left : ℕ) : Type 0 where
   pub same : get_or (replaced_of (drop i steps) n ++ last ∷ []) left [] ≡ get_or (replaced_of steps n ++ last ∷ []) number []
   pub few : left ≤ length (replaced_of (drop i steps) n)
+
+-- ---- what the steps from one on replaced in a sector
+module _ (steps : List Step) (n i : ℕ) (below : i < length steps) where
+  first_of : (step : Step) → get_or steps i (Replaced 0 []) ≡ step
+      → replaced_of (drop i steps) n ≡ replaced_of (step ∷ drop (i + 1) steps) n
+  first_of step is =
+      at_drop_more (λ l. replaced_of l n) steps i (Replaced 0 []) below
+      ∙ ap (λ (s : Step). replaced_of (s ∷ drop (i + 1) steps) n) is
+
+  module _ (k : ℕ) (content : List ℕ) (is : get_or steps i (Replaced 0 []) ≡ Replaced k content) where
+    abbrev rest : List (List ℕ)
+    rest = replaced_of (drop (i + 1) steps) n
+
+    abbrev with_it : Bool → List (List ℕ)
+    with_it b = if b then content ∷ rest else rest
+
+    if_written : (b : Bool) → nat_eq k n ≡ b → replaced_of (drop i steps) n ≡ with_it b
+    if_written b same = first_of (Replaced k content) is ∙ ap with_it same
+
+    pub one_more : k ≡ n → replaced_of (drop i steps) n ≡ content ∷ replaced_of (drop (i + 1) steps) n
+    one_more here = if_written true (⊎_elim (λ same. same.0) (λ other. absurd (other.1 here)) (eqb_tells k n))
+
+    pub none_more : k ≢ n → replaced_of (drop i steps) n ≡ replaced_of (drop (i + 1) steps) n
+    none_more other =
+        if_written false (⊎_elim (λ same. absurd (other same.1)) (λ none. none.0) (eqb_tells k n))
+
+  pub sync_more : get_or steps i (Replaced 0 []) ≡ Settled
+      → replaced_of (drop i steps) n ≡ replaced_of (drop (i + 1) steps) n
+  sync_more is = first_of Settled is
+
+module _ {steps : List Step} {n number : ℕ} {last : List ℕ} {i left : ℕ}
+    (so : IsLeft steps n number last i left) where
+  pub left_found : (content : List ℕ) (others : List (List ℕ))
+      → replaced_of (drop i steps) n ≡ content ∷ others → left ≡ 0
+      → content ≡ get_or (replaced_of steps n ++ last ∷ []) number []
+  left_found content others more none =
+      ap (λ (l : List (List ℕ)). get_or (l ++ last ∷ []) 0 []) (sym more)
+      ∙ ap (λ j. get_or (replaced_of (drop i steps) n ++ last ∷ []) j []) (sym none) ∙ so.same
+
+  pub left_passed : (content : List ℕ) (next : ℕ)
+      → replaced_of (drop i steps) n ≡ content ∷ replaced_of (drop (i + 1) steps) n → left ≢ 0
+      → next ≡ left - 1 → IsLeft steps n number last (i + 1) next
+  left_passed content next more some is =
+      let few = so.few in
+      let after : suc next ≡ left = omega (arith, some, is) in
+      record {
+        same =
+            ap (λ (l : List (List ℕ)). get_or (l ++ last ∷ []) (suc next) []) (sym more)
+            ∙ ap (λ j. get_or (replaced_of (drop i steps) n ++ last ∷ []) j []) after ∙ so.same;
+        few = omega (arith, few, after, ap (λ (l : List (List ℕ)). length l) more);
+      }
+
+  pub left_stays : (next : ℕ) → replaced_of (drop i steps) n ≡ replaced_of (drop (i + 1) steps) n
+      → next ≡ left → IsLeft steps n number last (i + 1) next
+  left_stays next same is =
+      let few = so.few in
+      record {
+        same =
+            ap (λ (l : List (List ℕ)). get_or (l ++ last ∷ []) next []) (sym same)
+            ∙ ap (λ j. get_or (replaced_of (drop i steps) n ++ last ∷ []) j []) is ∙ so.same;
+        few = omega (arith, few, is, ap (λ (l : List (List ℕ)). length l) same);
+      }
+
+  pub left_none : length steps ≤ i → last ≡ get_or (replaced_of steps n ++ last ∷ []) number []
+  left_none past =
+      let none = at_drop_all (λ l. replaced_of l n) steps i past in
+      let few = so.few in
+      let zero : 0 ≡ left = omega (arith, few, ap (λ (l : List (List ℕ)). length l) none) in
+      ap (λ (l : List (List ℕ)). get_or (l ++ last ∷ []) 0 []) (sym none)
+      ∙ ap (λ j. get_or (replaced_of (drop i steps) n ++ last ∷ []) j []) zero ∙ so.same
 
 -- ---- what a stop picks from
 pub choices_replaced : (seen : Image) (steps : List Step) (n : ℕ) → n < length seen → choices (held_before seen steps) n ≡ replaced_of steps n ++ sector seen n ∷ []

@@ -3,7 +3,8 @@ use Rattle.std.proofs.Common.{◌≡◌, ◌≢◌, ◌⊎◌, inl, inr, ⊎_eli
 use Rattle.std.proofs.lemmas.Bool.{cases_eq, cases_lt}
 use Rattle.std.proofs.lemmas.Grind.{get_or-set_at, get_or_default_zero}
 use Rattle.std.proofs.lemmas.List.{get_or_past, get_or_default, ext_get_or, get_or-take, get_or-drop, get_or_append_left, get_or-append_right, get_or-map, get_or-replicate, length-map, length-replicate}
-use Rattle.std.specs.Prelude.{Result, slice_range, Bool, false, not, if◌then◌else◌}
+use Rattle.std.proofs.Math.Seq.{take-append_seam}
+use Rattle.std.specs.Prelude.{Result, slice_range, Bool, true, false, not, if◌then◌else◌}
 use Rattle.std.specs.Result.{is_ok}
 use Rattle.sector_disk.specs.Disk.{Image, sector, IsWholeSector}
 use Rattle.sector_disk.specs.Whole.{AreSectors}
@@ -461,6 +462,31 @@ removal {places} {contents} {owners} n at contents' owners' c c' o o' kept below
 pub pushed : {X : Type 0} {T E : Type 0} (r : Result T E) (e : Bool) (old new xs : List X) (x : X) → is_ok r ≡ not e → e ≡ false → new ≡ (if is_ok r then old ++ xs else old) → xs ≡ x ∷ []
     → new ≡ old ++ x ∷ []
 pushed r e old new xs x negation fine is one = is ∙ ap (λ b. if b then old ++ xs else old) (negation ∙ ap not fine) ∙ ap (λ l. old ++ l) one
+
+-- a push that was an error
+pub not_pushed : {X T E : Type 0} {new : List X} {e : Bool} (r : Result T E) (old xs : List X)
+    → is_ok r ≡ not e → e ≡ true → new ≡ (if is_ok r then old ++ xs else old) → new ≡ old
+not_pushed r old xs negation failed is =
+    is ∙ ap (λ b. if b then old ++ xs else old) (negation ∙ ap not failed)
+
+-- a push that is taken back
+pub unpushed : {X : Type 0} {pushed popped : List X} {count : ℕ} (old : List X) (x : X)
+    → pushed ≡ old ++ x ∷ [] → count ≡ length pushed → popped ≡ take (count - 1) pushed → popped ≡ old
+unpushed {X} {pushed} {popped} {count} old x is len rest =
+    let front : count - 1 ≡ length old = omega (arith, len, ap length is, length-append old (x ∷ [])) in
+    rest ∙ ap (λ k. take k pushed) front ∙ ap (take (length old)) is ∙ take-append_seam old (x ∷ [])
+
+-- what has come back to what it was
+module _ {places places' : List ℕ} {contents contents' : Image} (place : places' ≡ places)
+    (content : contents' ≡ contents) where
+  pub kept_as : {owners owners' : List ℕ} → owners' ≡ owners → IsKept places contents owners
+      → IsKept places' contents' owners'
+  kept_as owner kept = rw (place, content, owner) kept
+
+  pub view_as : {sectors : KeptSectors}
+      → record { shown = sectors_at contents places; places = places } ≡ sectors
+      → record { shown = sectors_at contents' places'; places = places' } ≡ sectors
+  view_as view = rw (place, content) view
 
 -- A sector is there that has no place, and may get one behind the others, with this content.
 pub record HasNone (places : List ℕ) (contents : Image) (owners : List ℕ) (sectors : KeptSectors) (n at : ℕ) (content : List ℕ) : Type 0 where

@@ -1,10 +1,13 @@
 -- What a record keeps when an event is added to it, or isn't.
 use Rattle.std.proofs.Common.{◌≡◌, ℕ, List, length, sym, ap, subst}
-use Rattle.std.specs.Prelude.{Result, Ok, Err, OnOk, OnErr, false}
+use Rattle.std.specs.Prelude.{Result, Ok, Err, OnOk, OnErr, true, false}
 use Rattle.std.specs.Result.{is_err}
 use Rattle.std.proofs.lemmas.Bool.{true≢false}
 use Rattle.sector_disk.specs.Disk.{IsWholeSector}
+use Rattle.sector_disk.specs.Places.{KeptSectors}
 use Rattle.sector_disk.specs.Record.{Past}
+use Rattle.sector_disk.specs.Steps.{IsRecord, past_of}
+use Rattle.sector_disk.specs.declared.history.Step.{Step}
 use Rattle.sector_disk.specs.Whole.{AreWhole, whole_written, whole_synced}
 use Rattle.sector_disk.specs.Record.{Written, Synced}
 use Rattle.sector_disk.proofs.Done.{more}
@@ -13,6 +16,20 @@ use Rattle.sector_disk.proofs.Done.{more}
 pub recorded : {T E P : Type 0} (r : Result T E) → is_err r ≡ false → OnOk r P → P
 recorded (Ok x) fine is = is
 recorded (Err e) fine is = absurd (true≢false fine)
+
+-- and where it is one, what it says at Err is
+pub unrecorded : {T E P : Type 0} (r : Result T E) → is_err r ≡ true → OnErr r P → P
+unrecorded (Ok x) bad is = absurd (true≢false (sym bad))
+unrecorded (Err e) bad is = is
+
+-- what has come back to what it was is the record that it was
+module _ {seen seen' : KeptSectors} {done done' : List Step} (same : seen' ≡ seen)
+    (steps : done' ≡ done) where
+  pub record_as : {synced : ℕ} → IsRecord seen done synced → IsRecord seen' done' synced
+  record_as is = rw (same, steps) is
+
+  pub past_as : {past : Past} → past_of seen.shown done ≡ past → past_of seen'.shown done' ≡ past
+  past_as is = rw (same, steps) is
 
 -- as many whole sectors as before
 pub record StaysWhole (past new : Past) : Type 0 where

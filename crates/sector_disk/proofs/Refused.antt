@@ -46,6 +46,17 @@ changes_none same = record {
   kept = same.kept;
 }
 
+pub changes_past : (past later : Past) (f g n : ℕ) (content : List ℕ) → later ≡ past
+    → ChangesOnly (recorded_state past f) (recorded_state later g) n content
+changes_past past later f g n content same =
+    subst (λ (p : Past). ChangesOnly (recorded_state past f) (recorded_state p g) n content) (sym same)
+    (record {
+      size = refl;
+      seen = inl refl;
+      nothing_else = λ k c holds. inl holds;
+      kept = λ k c holds. holds;
+    })
+
 pub on_err : {T E P : Type 0} (result : Result T E) → P → OnErr result P
 on_err (Ok x) here = tt
 on_err (Err e) here = here

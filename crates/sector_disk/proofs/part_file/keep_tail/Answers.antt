@@ -14,3 +14,6 @@ returns-then-has_end-clause-ended g c =
 pub keep_run-requires-clause-has : goal.keep_run-requires-clause-has
 keep_run-requires-clause-has g c =
     subst (λ (run : Image). IfSome (g.F.DiskFile.held c.args.file.now) (HasRun c.args.tail.sector run)) (sym c.from_ref.ensures.value) c.requires.has
+
+pub returns-clause-follows : goal.returns-clause-follows
+returns-clause-follows g c = c.in_ok-keep_run.ensures.follows

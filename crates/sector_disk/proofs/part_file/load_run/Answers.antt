@@ -11,3 +11,6 @@ keep_run-requires-clause-has g c = recorded c.read_run.result (sym c.is_err.ensu
 pub keep_run-requires-clause-follows : goal.keep_run-requires-clause-follows
 keep_run-requires-clause-follows g c =
     subst (λ (f : Option Held). IsPart f c.args.sectors.now.shown c.args.loaded.now) (sym c.read_run.ensures.same) c.requires.follows
+
+pub returns-clause-follows : goal.returns-clause-follows
+returns-clause-follows g c = c.in_ok-keep_run.ensures.follows

@@ -8,3 +8,43 @@ keep_tail-requires-clause-has g c =
     let has = recorded c.read_run.result (sym c.is_err.ensures.value ∙ c.if-is_err.false) c.read_run.ensures.content in
     let below : c.loop-i.i < length c.read_run.new.to = search rules in
     one_of_run (g.F.DiskFile.held c.read_run.new.self) c.args.first c.loop-i.i c.read_run.new.to _ refl has below
+
+pub keep_tail-requires-clause-table : goal.keep_tail-requires-clause-table
+keep_tail-requires-clause-table g c = c.loop-i.invariant.table
+
+pub keep_tail-requires-clause-ends_len : goal.keep_tail-requires-clause-ends_len
+keep_tail-requires-clause-ends_len g c = c.loop-i.invariant.ends_len
+
+pub keep_tail-requires-clause-follows : goal.keep_tail-requires-clause-follows
+keep_tail-requires-clause-follows g c = c.loop-i.invariant.follows
+
+pub keep_tail-requires-clause-unread : goal.keep_tail-requires-clause-unread
+keep_tail-requires-clause-unread g c = c.loop-i.invariant.unread
+
+pub keep_tail-requires-clause-ended : goal.keep_tail-requires-clause-ended
+keep_tail-requires-clause-ended g c = c.loop-i.invariant.ended
+
+pub loop-i-preserved : goal.loop-i-preserved
+loop-i-preserved g c =
+    let now = c.in_ok-keep_tail.ensures in
+    record {
+      count = now.count ∙ c.loop-i.invariant.count;
+      table = now.table;
+      ends_len = now.ends_len;
+      follows = now.follows;
+      unread = now.unread;
+      ended = now.ended;
+    }
+
+pub returns : goal.returns
+returns g c =
+    let now = c.loop-i.invariant in
+    record {
+      count = now.count;
+      table = now.table;
+      ends_len = now.ends_len;
+      file = c.read_run.ensures.same;
+      follows = now.follows;
+      unread = now.unread;
+      ended = now.ended;
+    }

@@ -1,7 +1,15 @@
 use Rattle.std.proofs.Common.{◌∙◌, arith}
 use Rattle.std.proofs.lemmas.Result.{on_err_weaker}
-use Rattle.sector_disk.proofs.Passing.{cause, narrowed, same, time, told}
+use Rattle.sector_disk.proofs.Passing.{cause, narrowed, same, time, told, unmoved, untouched}
 use Rattle.sector_disk.proofs.faulty.FaultyDiskDisk.sync.Goals as goal
+
+pub returns-in_err-pass_write-clause-changes : goal.returns-in_err-pass_write-clause-changes
+returns-in_err-pass_write-clause-changes g c =
+    (untouched g.D.Disk.state c.args.self.now c.pass_write.new.self c.pass_write.ensures.disk).narrowed
+
+pub returns-in_err-pass_write-clause-time : goal.returns-in_err-pass_write-clause-time
+returns-in_err-pass_write-clause-time g c =
+    unmoved g.D.Disk.state c.args.self.now c.pass_write.new.self c.pass_write.ensures.disk
 
 pub returns : goal.returns
 returns g c =

@@ -1,7 +1,11 @@
 use Rattle.std.proofs.Common.{◌∙◌, arith}
 use Rattle.std.proofs.lemmas.Result.{on_ok_weaker}
-use Rattle.sector_disk.proofs.Passing.{cause, changes, time, told, written}
+use Rattle.sector_disk.proofs.Passing.{cause, changes, time, told, written, unmoved, untouched, sized}
+use Rattle.sector_disk.proofs.Refused.{changes_none}
 use Rattle.sector_disk.proofs.faulty.FaultyDiskDisk.write.Goals as goal
+
+pub write-requires : goal.write-requires
+write-requires g c = sized g.D.Disk.state (c.self.view_is ∙ c.in_ok-pass_write.ensures.failures) c.requires
 
 pub returns : goal.returns
 returns g c =
@@ -15,3 +19,11 @@ returns g c =
       told = told state here c.write.ensures.told;
       worn = λ worn. absurd (omega (arith, worn, c.in_ok-pass_write.ensures.worn));
     }
+
+pub returns-in_err-pass_write-clause-changes : goal.returns-in_err-pass_write-clause-changes
+returns-in_err-pass_write-clause-changes g c =
+    changes_none (untouched g.D.Disk.state c.args.self.now c.pass_write.new.self c.pass_write.ensures.disk)
+
+pub returns-in_err-pass_write-clause-time : goal.returns-in_err-pass_write-clause-time
+returns-in_err-pass_write-clause-time g c =
+    unmoved g.D.Disk.state c.args.self.now c.pass_write.new.self c.pass_write.ensures.disk

@@ -1,6 +1,6 @@
-use Rattle.std.proofs.Common.{◌≡◌, subst}
-use Rattle.std.specs.Prelude.{OnOk}
-use Rattle.sector_disk.specs.Disk.{sector}
+use Rattle.std.proofs.Common.{◌≡◌, ◌-◌, ◌^◌, subst}
+use Rattle.std.specs.Prelude.{IsErr, OnOk}
+use Rattle.sector_disk.specs.Disk.{IsSame, sector}
 use Rattle.sector_disk.specs.Record.{recorded_state}
 use Rattle.sector_disk.specs.declared.memory.MemDisk.{MemDisk}
 use Rattle.sector_disk.proofs.Following.{memory_in, memory_follows}
@@ -17,3 +17,14 @@ invariant_of-self g c = record {
   in_disk = memory_in c.read.new.self c.args.self.now.waiting.items c.deref_mut.ensures.value c.read.ensures.same c.args.self.now.in_disk;
   follows = memory_follows c.read.new.self c.args.self.now.waiting.items c.args.self.now.all_wait (g.F.DiskFile.held c.args.self.now.file) c.deref_mut.ensures.value c.read.ensures.same c.args.self.now.follows;
 }
+
+pub returns-clause-same : goal.returns-clause-same
+returns-clause-same g c =
+    let new = recorded_state c.read.new.self.history c.read.new.self.failures in
+    subst (λ (was : MemDisk). IsSame (recorded_state was.history was.failures) new) c.deref_mut.ensures.value
+    c.read.ensures.same
+
+pub returns-clause-worn : goal.returns-clause-worn
+returns-clause-worn g c =
+    subst (λ (was : MemDisk). was.failures ≡ 2 ^ 64 - 1 → IsErr c.read.result) c.deref_mut.ensures.value
+    c.read.ensures.worn

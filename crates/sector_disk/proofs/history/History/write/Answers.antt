@@ -4,7 +4,8 @@ use Rattle.sector_disk.specs.Record.{Past, Written}
 use Rattle.sector_disk.specs.Steps.{past_of, IsLog, CanPutBack}
 use Rattle.sector_disk.specs.declared.history.Step.{Step}
 use Rattle.sector_disk.specs.declared.history.Step.TheVariants.{Replaced}
-use Rattle.sector_disk.proofs.Recorded.{recorded}
+use Rattle.sector_disk.proofs.Placed.{unpushed}
+use Rattle.sector_disk.proofs.Recorded.{recorded, unrecorded, record_as, past_as}
 use Rattle.sector_disk.proofs.Undone.{past-write, log-write, back-write}
 use Rattle.sector_disk.proofs.history.History.write.Goals as goal
 
@@ -39,3 +40,24 @@ returns-clause-ok c =
     let set = recorded c.set.result (sym c.is_err.ensures.value ∙ c.if-is_err.false) c.set.ensures.ok in
     ap (λ (seen : Image). past_of seen c.extend_from_slice.new.self.items) set ∙ ap (λ (l : List Step). past_of (slice_set i.seen.shown n content) l) step
     ∙ past-write i.seen.shown n content i.done.items below ∙ ap (λ (p : Past). record p { events = p.events ++ Written n content ∷ [] }) c.self.view_is
+
+-- the step is taken back
+pub invariant_of-self-then-is_err : goal.invariant_of-self-then-is_err
+invariant_of-self-then-is_err c =
+    let i = c.self.inside in
+    let grown = c.extend_from_slice.new.self in
+    let same = unrecorded c.set.result (sym c.is_err.ensures.value ∙ c.if-is_err.true) c.set.ensures.err in
+    let step = c.in_ok-extend_from_slice.ensures.items in
+    record_as same
+    (unpushed i.done.items (Replaced c.args.n c.get.result.now) step grown.ok.0 c.pop.ensures.rest)
+    c.self.invariant
+
+pub returns-then-is_err-clause-err : goal.returns-then-is_err-clause-err
+returns-then-is_err-clause-err c =
+    let i = c.self.inside in
+    let grown = c.extend_from_slice.new.self in
+    let same = unrecorded c.set.result (sym c.is_err.ensures.value ∙ c.if-is_err.true) c.set.ensures.err in
+    let step = c.in_ok-extend_from_slice.ensures.items in
+    past_as same
+    (unpushed i.done.items (Replaced c.args.n c.get.result.now) step grown.ok.0 c.pop.ensures.rest)
+    c.self.view_is
