@@ -9,9 +9,11 @@ pub mod DataNumbers
 pub mod Failures
 pub mod DirectorySlots
 pub mod DistinctNames
+pub mod Endings
 pub mod FitNumbers
 pub mod FreeInodes
 mod FreeSectors
+pub mod KindTests
 pub mod MarkedParts
 pub mod Marks
 pub mod Namings

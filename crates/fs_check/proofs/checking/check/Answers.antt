@@ -1,8 +1,13 @@
-use Rattle.sector_disk.specs.Disk.{OnlyReads, sector}
+use Rattle.sector_disk.specs.Disk.{OnlyReads, sector, DiskState, Image}
 use Rattle.sector_disk.proofs.Moments.{reads_joined}
-use Rattle.fs_model.specs.Rules.{HasWholeSectors}
+use Rattle.fs_model.specs.Rules.{HasWholeSectors, IsGeometryOf}
 use Rattle.fs_check.proofs.Clean.{whole_seen, clean_after, first_within, none_before}
-use Rattle.fs_check.proofs.Carrying.{part_error, same_error}
+use Rattle.fs_check.proofs.Carrying.{part_error, same_error, opened_still, table_still, before_still}
+use Rattle.fs_check.proofs.Endings.{if_ended}
+use Rattle.std.proofs.Common.{ℕ, sym, subst}
+use Rattle.fs_layout.specs.declared.geometry.Geometry.{Geometry}
+use Rattle.fs_check.specs.Checks.{meaning, AreInodes}
+use Rattle.fs_model.proofs.Findings as findings
 use Rattle.fs_check.proofs.checking.check.Goals as goal
 
 pub summary-requires : goal.summary-requires
@@ -50,3 +55,56 @@ pub returns-clause-passed : goal.returns-clause-passed
 returns-clause-passed g c =
     let reads = reads_joined c.in_ok-geometry.ensures.passed.reads c.in_ok-area.ensures.passed.reads in
     record { reads = reads_joined (reads_joined reads c.in_ok-inodes.ensures.passed.reads) c.in_ok-owned.ensures.passed.reads; reason = tt }
+
+pub returns-in_err-geometry-clause-clean : goal.returns-in_err-geometry-clause-clean
+returns-in_err-geometry-clause-clean g c = if_ended _ _ c.from_residual.result c.from_residual.ensures.1
+
+pub returns-in_err-area-clause-clean : goal.returns-in_err-area-clause-clean
+returns-in_err-area-clause-clean g c = let left = c.from_residual-in_err-area in if_ended _ _ left.result left.ensures.1
+
+pub returns-in_err-inodes-clause-clean : goal.returns-in_err-inodes-clause-clean
+returns-in_err-inodes-clause-clean g c = let left = c.from_residual-in_err-inodes in if_ended _ _ left.result left.ensures.1
+
+pub returns-in_err-owned-clause-clean : goal.returns-in_err-owned-clause-clean
+returns-in_err-owned-clause-clean g c = let left = c.from_residual-in_err-owned in if_ended _ _ left.result left.ensures.1
+
+-- what the superblock says stays so while the disk is only read
+geometry_still : {p : Geometry} {old mid : DiskState} → OnlyReads old mid → IsGeometryOf old.size (sector old.seen) p
+    → IsGeometryOf mid.size (sector mid.seen) p
+geometry_still {p} {old} {mid} reads x =
+    subst (λ (i : Image). IsGeometryOf mid.size (sector i) p) (sym reads.narrowed.seen)
+    (subst (λ (n : ℕ). IsGeometryOf n (sector old.seen) p) (sym reads.narrowed.size) x)
+
+pub open_commit-requires : goal.open_commit-requires
+open_commit-requires g c = geometry_still c.in_ok-geometry.ensures.passed.reads c.in_ok-geometry.ensures.geometry
+
+pub check_tables-requires-clause-opened : goal.check_tables-requires-clause-opened
+check_tables-requires-clause-opened g c =
+    let found = c.in_ok-area.ensures in
+    opened_still found.passed.reads (record {
+      geometry = geometry_still c.in_ok-geometry.ensures.passed.reads c.in_ok-geometry.ensures.geometry;
+      log = found.area;
+      commit = found.targets;
+    })
+
+pub check_inodes-requires-clause-opened : goal.check_inodes-requires-clause-opened
+check_inodes-requires-clause-opened g c =
+    let found = c.in_ok-area.ensures in
+    opened_still (reads_joined found.passed.reads c.in_ok-inodes.ensures.passed.reads) (record {
+      geometry = geometry_still c.in_ok-geometry.ensures.passed.reads c.in_ok-geometry.ensures.geometry;
+      log = found.area;
+      commit = found.targets;
+    })
+
+pub check_inodes-requires-clause-inodes : goal.check_inodes-requires-clause-inodes
+check_inodes-requires-clause-inodes g c =
+    let m = meaning (g.D.Disk.state c.check_tables.new.disk) in
+    let read = c.in_ok-inodes.ensures in
+    record {
+      table = subst (AreInodes c.in_ok-geometry.geometry m) (sym c.deref.ensures.value) (table_still read.passed.reads read.table);
+      before = before_still read.passed.reads read.before;
+    }
+
+pub check_tables-requires-clause-before : goal.check_tables-requires-clause-before
+check_tables-requires-clause-before g c =
+    findings.none_before c.in_ok-geometry.geometry (meaning (g.D.Disk.state c.open_commit.new.disk))

@@ -2,6 +2,7 @@ use Rattle.std.proofs.lemmas.Result.{err_from_is_err_and}
 use Rattle.sector_disk.specs.Disk.{OnlyReads}
 use Rattle.sector_disk.proofs.Moments.{reads_joined}
 use Rattle.fs_check.proofs.Carrying.{opened_still, table_still, before_still, before_back, part_error, same_error, failed_of}
+use Rattle.fs_check.proofs.Endings.{on_ended, if_ended}
 use Rattle.fs_check.proofs.checking.check_inodes.Goals as goal
 
 pub returns-in_err-check_tree-clause-passed : goal.returns-in_err-check_tree-clause-passed
@@ -58,3 +59,22 @@ returns-clause-passed g c =
 pub check_tree-requires : goal.check_tree-requires
 check_tree-requires g c =
     let named = c.in_ok-names.ensures.names in record { few = c.requires.inodes.table.len; counts_len = named.counted.len; directories_len = named.len }
+
+pub check_owners-requires-clause-opened : goal.check_owners-requires-clause-opened
+check_owners-requires-clause-opened g c = c.requires.opened
+
+pub check_owners-requires-clause-inodes : goal.check_owners-requires-clause-inodes
+check_owners-requires-clause-inodes g c = c.requires.inodes
+
+pub returns-in_err-owned-clause-owners : goal.returns-in_err-owned-clause-owners
+returns-in_err-owned-clause-owners g c = if_ended _ _ c.from_residual.result c.from_residual.ensures.1
+
+pub returns-in_err-owned-clause-before : goal.returns-in_err-owned-clause-before
+returns-in_err-owned-clause-before g c = on_ended _ _ c.from_residual.result c.from_residual.ensures.1
+
+pub returns-in_err-check_tree-clause-owners : goal.returns-in_err-check_tree-clause-owners
+returns-in_err-check_tree-clause-owners g c =
+    let left = c.from_residual-in_err-check_tree in if_ended _ _ left.result left.ensures.1
+
+pub returns-clause-owners : goal.returns-clause-owners
+returns-clause-owners g c = c.in_ok-owned.ensures.owners

@@ -5,6 +5,7 @@ use Rattle.fs_check.proofs.DataNumbers.{above_owned, level_owned}
 use Rattle.fs_check.proofs.FitNumbers.{needed_level, own_none, to_cut, of_cut, own_not_cut, cut_without, cut_at_hole, last_lists}
 use Rattle.fs_check.proofs.Carrying.{same_error}
 use Rattle.sector_disk.proofs.Moments.{reads_nothing}
+use Rattle.fs_check.proofs.Endings.{on_ended, if_ended}
 use Rattle.fs_check.proofs.contents.is_cut.Goals as goal
 
 pub returns-then-not-are_none-clause-test : goal.returns-then-not-are_none-clause-test
@@ -74,3 +75,27 @@ returns-then-branch-eq0-clause-passed g c = record { reads = c.in_ok-find.ensure
 
 pub returns-clause-passed : goal.returns-clause-passed
 returns-clause-passed g c = record { reads = c.in_ok-find.ensures.passed.reads; reason = tt }
+
+pub returns-in_err-find-clause-test : goal.returns-in_err-find-clause-test
+returns-in_err-find-clause-test g c = if_ended _ _ c.from_residual.result c.from_residual.ensures.1
+
+pub returns-then-branch-eq0-clause-at_hand : goal.returns-then-branch-eq0-clause-at_hand
+returns-then-branch-eq0-clause-at_hand g c = c.in_ok-find.ensures.at_hand
+
+pub returns-in_err-find-clause-at_hand : goal.returns-in_err-find-clause-at_hand
+returns-in_err-find-clause-at_hand g c = on_ended _ _ c.from_residual.result c.from_residual.ensures.1
+
+pub find-requires-clause-opened : goal.find-requires-clause-opened
+find-requires-clause-opened g c = c.requires.opened
+
+pub find-requires-clause-at_hand : goal.find-requires-clause-at_hand
+find-requires-clause-at_hand g c = c.requires.at_hand
+
+pub returns-clause-at_hand : goal.returns-clause-at_hand
+returns-clause-at_hand g c = c.in_ok-find.ensures.at_hand
+
+pub returns-then-not-are_none-clause-at_hand : goal.returns-then-not-are_none-clause-at_hand
+returns-then-not-are_none-clause-at_hand g c = c.requires.at_hand
+
+pub returns-then-above-eq0-clause-at_hand : goal.returns-then-above-eq0-clause-at_hand
+returns-then-above-eq0-clause-at_hand g c = c.requires.at_hand

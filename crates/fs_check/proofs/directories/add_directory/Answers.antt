@@ -1,19 +1,23 @@
-use Rattle.std.proofs.Common.{◌≡◌, ◌≢◌, ◌+◌, ◌<◌, ◌≤◌, ◌↔◌, ℕ, List, get_or, length, rules, refl, sym, ap, subst, arith, ◌∙◌}
+use Rattle.std.proofs.Common.{◌≡◌, ◌+◌, ◌<◌, ◌≤◌, ◌↔◌, ℕ, List, get_or, length, refl, sym, ap, subst, arith, ◌∙◌}
 use Rattle.std.proofs.lemmas.List.{take_at}
-use Rattle.std.proofs.lemmas.Option.{MatchOption-at_some}
+use Rattle.std.proofs.lemmas.Option.{MatchOption-at_some, MatchOption-at_none}
 use Rattle.fs_layout.specs.declared.inode.TheConstants.{MAX_DIRECTORY_SIZE}
 use Rattle.fs_layout.specs.declared.inode.Inode.{Inode}
-use Rattle.fs_layout.specs.declared.inode.Kind.TheVariants.{Directory}
 use Rattle.fs_layout.specs.Images.{Owns, IsData, inode_at}
-use Rattle.fs_layout.specs.Directories.{HaveDistinctNames, slot_count}
+use Rattle.fs_layout.specs.Directories.{HaveDistinctNames, slot_count, NamedInode}
 use Rattle.fs_model.specs.Rules.{Obeys, InData, Inodes, NamesApart}
 use Rattle.fs_check.specs.Checks.{meaning}
 use Rattle.fs_check.specs.Naming.{AreSlots, HasGoodSlots}
 use Rattle.sector_disk.proofs.Moments.{reads_nothing}
 use Rattle.fs_check.proofs.Carrying.{same_error}
+use Rattle.fs_check.proofs.KindTests.{is_directory, no_directory, where_not, where_so}
 use Rattle.fs_check.proofs.Tables.{table_geometry}
 use Rattle.fs_check.proofs.Tests.{within, inode_here, blank}
 use Rattle.fs_check.proofs.Tallies.{directory_size, same_naming, next_naming, few_slots, has_room, adds_same, naming_same}
+use Rattle.fs_check.proofs.Endings.{if_ended}
+use Rattle.std.proofs.lemmas.Bool.{false≢true}
+use Rattle.fs_layout.specs.declared.geometry.Geometry.{Geometry}
+use Rattle.fs_layout.specs.Bytes.{SectorMap}
 use Rattle.fs_check.proofs.directories.add_directory.Goals as goal
 
 pub returns-then-ne-clause-names : goal.returns-then-ne-clause-names
@@ -22,7 +26,7 @@ returns-then-ne-clause-names g c =
     let p = c.args.opened.now.geometry in
     let d = c.args.dir_ino in
     let here = inode_here p m c.args.inodes.now d blank c.requires.inodes.table c.requires.below in
-    let other : (get_or c.args.inodes.now d blank).kind ≢ Directory = search rules in
+    let other = no_directory (get_or c.args.inodes.now d blank).kind (where_not _ c.if-ne.ensures) in
     λ t. same_naming p m d c.args.names.now.counts.items c.args.names.now.directories.items c.args.names.now.repeated
     (λ e. other (ap (λ (v : Inode). v.kind) here ∙ e)) c.requires.names
 
@@ -39,7 +43,7 @@ read_good_slots-requires-clause-size g c =
     let p = c.args.opened.now.geometry in
     let d = c.args.dir_ino in
     let here = inode_here p m c.args.inodes.now d blank c.requires.inodes.table c.requires.below in
-    let is : (get_or c.args.inodes.now d blank).kind ≡ Directory = search rules in
+    let is = is_directory (get_or c.args.inodes.now d blank).kind (where_so _ c.if-ne.ensures) in
     subst (λ (v : Inode). v.size ≤ MAX_DIRECTORY_SIZE) (sym here) (directory_size p m d (c.requires.inodes.before Inodes (omega arith) d (within p m c.args.inodes.now d c.requires.inodes.table c.requires.below))
     (sym (ap (λ (v : Inode). v.kind) here) ∙ is))
 
@@ -53,7 +57,7 @@ add_slots-requires-clause-room g c =
     let at = table_geometry _ _ p d c.requires.opened.geometry below in
     let some = at.few in
     let here = inode_here p m c.args.inodes.now d blank c.requires.inodes.table c.requires.below in
-    let is : (get_or c.args.inodes.now d blank).kind ≡ Directory = search rules in
+    let is = is_directory (get_or c.args.inodes.now d blank).kind (where_so _ c.if-ne.ensures) in
     let size = directory_size p m d (c.requires.inodes.before Inodes (omega arith) d below) (sym (ap (λ (v : Inode). v.kind) here) ∙ is) in
     let found : AreSlots p.version m (get_or c.args.inodes.now d blank) c.in-Some.slots.items =
     (MatchOption-at_some _ _ c.in-Some.slots c.in-Some.is c.in_ok-slots.ensures.slots).1 in
@@ -82,7 +86,7 @@ returns-clause-names g c =
     let names = c.args.names.now in
     let slots = c.in-Some.slots.items in
     let here = inode_here p m c.args.inodes.now d blank c.requires.inodes.table c.requires.below in
-    let is : (get_or c.args.inodes.now d blank).kind ≡ Directory = search rules in
+    let is = is_directory (get_or c.args.inodes.now d blank).kind (where_so _ c.if-ne.ensures) in
     let found : AreSlots p.version m (get_or c.args.inodes.now d blank) c.in-Some.slots.items =
     (MatchOption-at_some _ _ c.in-Some.slots c.in-Some.is c.in_ok-slots.ensures.slots).1 in
     let are = subst (λ v. AreSlots p.version m v slots) here found in
@@ -107,3 +111,65 @@ returns-in_default-clause-passed g c = record { reads = c.in_ok-slots.ensures.pa
 
 pub returns-clause-passed : goal.returns-clause-passed
 returns-clause-passed g c = record { reads = c.in_ok-slots.ensures.passed.reads; reason = tt }
+
+pub read_good_slots-requires-clause-opened : goal.read_good_slots-requires-clause-opened
+read_good_slots-requires-clause-opened g c = c.requires.opened
+
+pub read_good_slots-requires-clause-table : goal.read_good_slots-requires-clause-table
+read_good_slots-requires-clause-table g c = c.requires.inodes.table
+
+pub returns-in_err-slots-clause-test : goal.returns-in_err-slots-clause-test
+returns-in_err-slots-clause-test g c = if_ended _ _ c.from_residual.result c.from_residual.ensures.1
+
+pub returns-in_err-slots-clause-names : goal.returns-in_err-slots-clause-names
+returns-in_err-slots-clause-names g c = if_ended _ _ c.from_residual.result c.from_residual.ensures.1
+
+-- a slot of a directory names an inode that the tables have
+named_there : (p : Geometry) (m : SectorMap) (v : Inode) (slots here : List NamedInode) (table whole : List ℕ)
+    → HasGoodSlots p m v × AreSlots p.version m v slots → here ≡ slots → table ≡ whole → length whole ≡ p.inodes
+    → (k : ℕ) (d : NamedInode) → k < length here → (get_or here k d).ino < length table
+named_there p m v slots here table whole found is same len k d lt =
+    let all = found.1.len in
+    let seen = ap length is in
+    let below : k < slot_count p.version v = omega (arith, lt, all, seen) in
+    let low = (found.0 k below).below in
+    let named = ap (λ (l : List NamedInode). (get_or l k d).ino) is ∙ ap (λ (x : NamedInode). x.ino) (found.1.each k d below) in
+    let size = ap length same in
+    omega (arith, named, low, size, len)
+
+pub add_slots-requires-clause-counts : goal.add_slots-requires-clause-counts
+add_slots-requires-clause-counts g c =
+    named_there c.args.opened.now.geometry (meaning (g.D.Disk.state c.args.disk.now))
+    (get_or c.args.inodes.now c.args.dir_ino blank) c.in-Some.slots.items c.deref.result.now c.deref_mut.result.now
+    c.args.names.now.counts.items (MatchOption-at_some _ _ c.in-Some.slots c.in-Some.is c.in_ok-slots.ensures.slots)
+    c.deref.ensures.value c.deref_mut.ensures.value c.requires.names.tally.counts_len
+
+pub add_slots-requires-clause-directories : goal.add_slots-requires-clause-directories
+add_slots-requires-clause-directories g c =
+    named_there c.args.opened.now.geometry (meaning (g.D.Disk.state c.args.disk.now))
+    (get_or c.args.inodes.now c.args.dir_ino blank) c.in-Some.slots.items c.deref.result.now c.deref_mut-2.result.now
+    c.args.names.now.directories.items (MatchOption-at_some _ _ c.in-Some.slots c.in-Some.is c.in_ok-slots.ensures.slots)
+    c.deref.ensures.value c.deref_mut-2.ensures.value c.requires.names.tally.directories_len
+
+pub returns-then-ne-clause-test : goal.returns-then-ne-clause-test
+returns-then-ne-clause-test g c =
+    let m = meaning (g.D.Disk.state c.args.disk.now) in
+    let here = inode_here c.args.opened.now.geometry m c.args.inodes.now c.args.dir_ino blank c.requires.inodes.table c.requires.below in
+    let other = no_directory (get_or c.args.inodes.now c.args.dir_ino blank).kind (where_not _ c.if-ne.ensures) in
+    ((λ t lt is. absurd (other (ap (λ (v : Inode). v.kind) here ∙ is))), (λ o. refl))
+
+pub returns-in_default-clause-test : goal.returns-in_default-clause-test
+returns-in_default-clause-test g c =
+    let bad = MatchOption-at_none _ _ c.in_default.is c.in_ok-slots.ensures.slots in
+    let is = is_directory (get_or c.args.inodes.now c.args.dir_ino blank).kind (where_so _ c.if-ne.ensures) in
+    let table = c.requires.inodes.table in
+    let p = c.args.opened.now.geometry in
+    let m = meaning (g.D.Disk.state c.args.disk.now) in
+    let here = inode_here p m c.args.inodes.now c.args.dir_ino blank table c.requires.below in
+    let below = within p m c.args.inodes.now c.args.dir_ino table c.requires.below in (
+      (λ f. absurd (false≢true f)),
+      (λ o. absurd (bad (subst (HasGoodSlots p m) (sym here) (o below (sym (ap (λ (v : Inode). v.kind) here) ∙ is))))),
+    )
+
+pub returns-in_default-clause-names : goal.returns-in_default-clause-names
+returns-in_default-clause-names g c = λ f. absurd (false≢true f)

@@ -9,6 +9,7 @@ use Rattle.fs_check.proofs.DataNumbers.{in_data_joined, level_in_data, listed_ow
 use Rattle.fs_check.proofs.MarkedParts.{sector_skipped, rest_skipped}
 use Rattle.fs_check.proofs.OwnedParts.{end_few, end_listed, has_level}
 use Rattle.std.proofs.lemmas.Bool.{false≢true}
+use Rattle.fs_check.proofs.Endings.{on_ended, if_ended}
 use Rattle.fs_check.proofs.marking.mark_level.Goals as goal
 
 pub returns-then-not-mark_listed-clause-test : goal.returns-then-not-mark_listed-clause-test
@@ -201,3 +202,57 @@ returns-then-not-mark_listed-2-clause-marked g c = λ f. absurd (false≢true f)
 
 pub returns-clause-at_hand : goal.returns-clause-at_hand
 returns-clause-at_hand g c = c.loop-j.invariant.at_hand
+
+pub mark_listed-requires-clause-level : goal.mark_listed-requires-clause-level
+mark_listed-requires-clause-level g c = c.requires.level
+
+pub mark_listed-requires-clause-owned : goal.mark_listed-requires-clause-owned
+mark_listed-requires-clause-owned g c = c.requires.owned
+
+pub returns-in_err-find-clause-test : goal.returns-in_err-find-clause-test
+returns-in_err-find-clause-test g c = if_ended _ _ c.from_residual.result c.from_residual.ensures.1
+
+pub mark_listed-requires-clause-twice : goal.mark_listed-requires-clause-twice
+mark_listed-requires-clause-twice g c = c.requires.twice
+
+pub returns-then-not-mark_listed-clause-owned_len : goal.returns-then-not-mark_listed-clause-owned_len
+returns-then-not-mark_listed-clause-owned_len g c = c.mark_listed.ensures.owned_len
+
+pub returns-then-not-mark_listed-clause-at_hand : goal.returns-then-not-mark_listed-clause-at_hand
+returns-then-not-mark_listed-clause-at_hand g c = c.requires.at_hand
+
+pub mark_listed-requires-in-loop-j-clause-level : goal.mark_listed-requires-in-loop-j-clause-level
+mark_listed-requires-in-loop-j-clause-level g c = c.requires.level
+
+pub returns-then-not-mark_listed-clause-twice_len : goal.returns-then-not-mark_listed-clause-twice_len
+returns-then-not-mark_listed-clause-twice_len g c = c.mark_listed.ensures.twice_len
+
+pub mark_listed-requires-in-loop-j-clause-owned : goal.mark_listed-requires-in-loop-j-clause-owned
+mark_listed-requires-in-loop-j-clause-owned g c = c.loop-j.invariant.owned_len
+
+pub mark_listed-requires-in-loop-j-clause-twice : goal.mark_listed-requires-in-loop-j-clause-twice
+mark_listed-requires-in-loop-j-clause-twice g c = c.loop-j.invariant.twice_len
+
+pub returns-in_err-find-clause-marked : goal.returns-in_err-find-clause-marked
+returns-in_err-find-clause-marked g c = if_ended _ _ c.from_residual.result c.from_residual.ensures.1
+
+pub returns-in_err-find-clause-at_hand : goal.returns-in_err-find-clause-at_hand
+returns-in_err-find-clause-at_hand g c = on_ended _ _ c.from_residual.result c.from_residual.ensures.1
+
+pub returns-then-not-mark_listed-2-clause-owned_len : goal.returns-then-not-mark_listed-2-clause-owned_len
+returns-then-not-mark_listed-2-clause-owned_len g c = c.mark_listed-in-loop-j.ensures.owned_len
+
+pub returns-in_err-find-clause-owned_len : goal.returns-in_err-find-clause-owned_len
+returns-in_err-find-clause-owned_len g c = c.loop-j.invariant.owned_len
+
+pub returns-in_err-find-clause-twice_len : goal.returns-in_err-find-clause-twice_len
+returns-in_err-find-clause-twice_len g c = c.loop-j.invariant.twice_len
+
+pub returns-then-not-mark_listed-2-clause-twice_len : goal.returns-then-not-mark_listed-2-clause-twice_len
+returns-then-not-mark_listed-2-clause-twice_len g c = c.mark_listed-in-loop-j.ensures.twice_len
+
+pub returns-clause-owned_len : goal.returns-clause-owned_len
+returns-clause-owned_len g c = c.loop-j.invariant.owned_len
+
+pub returns-clause-twice_len : goal.returns-clause-twice_len
+returns-clause-twice_len g c = c.loop-j.invariant.twice_len

@@ -1,20 +1,36 @@
-use Rattle.std.proofs.Common.{arith, refl, rules, subst, ◌∙◌}
+use Rattle.std.proofs.Common.{arith, refl, rules, subst, ◌∙◌, sym, ap}
 use Rattle.std.proofs.lemmas.Bool.{false≢true}
-use Rattle.std.specs.Prelude.{◌≡◌, ◌<◌, Ok}
-use Rattle.sector_disk.proofs.Moments.{reads_joined}
+use Rattle.std.specs.Prelude.{◌≡◌, ◌≢◌, ◌<◌, ◌%◌, ℕ, Ok}
+use Rattle.sector_disk.proofs.Moments.{reads_joined, reads_nothing}
 use Rattle.fs_layout.specs.Directories.{slot_count, slot_at, slot_of, stored_slot}
 use Rattle.fs_check.specs.Checks.{meaning}
-use Rattle.fs_check.specs.Naming.{IsSlotIn}
+use Rattle.fs_check.specs.Naming.{IsSlotIn, block_of_slot}
 use Rattle.fs_check.specs.Owning.{AreAtHand}
-use Rattle.fs_check.proofs.Carrying.{meaning_same, read_error}
+use Rattle.fs_check.proofs.Carrying.{meaning_same, read_error, hand_still, opened_still}
 use Rattle.fs_check.proofs.Tables.{more_there, more_good}
 use Rattle.fs_check.proofs.DirectorySlots.{in_data_still, block_back, same_block}
+use Rattle.fs_check.proofs.Endings.{if_ended}
+use Rattle.fs_layout.specs.Bytes.{SectorMap}
 use Rattle.fs_check.proofs.slots.fill_slots.Goals as goal
+
+first_slot : (n : ℕ) (P : Type 0) → 0 % n ≢ 0 → P
+first_slot n P inside = absurd (inside (search rules))
+
+none_yet : (P : ℕ → Type 0) (j : ℕ) → j < 0 → P j
+none_yet P j lt = absurd (omega (arith, lt))
 
 pub loop-k-init : goal.loop-k-init
 loop-k-init g c =
-    let at_hand = c.new-pointers.ensures (meaning (g.D.Disk.state c.args.disk.now)) in
-    search rules
+    let none = c.requires.none in
+    record {
+      reads = reads_nothing;
+      at_hand = c.new-pointers.ensures (meaning (g.D.Disk.state c.args.disk.now));
+      block = first_slot _ _;
+      len = none;
+      room = refl;
+      valid = none_yet _;
+      each = λ d. none_yet _;
+    }
 
 pub read_block_of-requires-clause-in_data : goal.read_block_of-requires-clause-in_data
 read_block_of-requires-clause-in_data g c =
@@ -79,3 +95,24 @@ returns-clause-slots g c = λ t.
 
 pub returns-clause-passed : goal.returns-clause-passed
 returns-clause-passed g c = record { reads = c.loop-k.invariant.reads; reason = tt }
+
+pub returns-in_err-read_block_of-clause-test : goal.returns-in_err-read_block_of-clause-test
+returns-in_err-read_block_of-clause-test g c = if_ended _ _ c.from_residual.result c.from_residual.ensures.1
+
+pub returns-in_err-read_block_of-clause-slots : goal.returns-in_err-read_block_of-clause-slots
+returns-in_err-read_block_of-clause-slots g c = if_ended _ _ c.from_residual.result c.from_residual.ensures.1
+
+pub read_block_of-requires-clause-opened : goal.read_block_of-requires-clause-opened
+read_block_of-requires-clause-opened g c = opened_still c.loop-k.invariant.reads c.requires.opened
+
+pub read_block_of-requires-clause-at_hand : goal.read_block_of-requires-clause-at_hand
+read_block_of-requires-clause-at_hand g c = hand_still c.loop-k.invariant.reads c.loop-k.pointers c.loop-k.invariant.at_hand
+
+pub read_block_of-requires-clause-before : goal.read_block_of-requires-clause-before
+read_block_of-requires-clause-before g c = λ inside.
+    c.loop-k.invariant.block inside
+    ∙ sym (ap (λ (m : SectorMap). block_of_slot c.args.opened.now.geometry.version m c.args.inode.now c.loop-k.k)
+    (meaning_same c.loop-k.invariant.reads))
+
+pub returns-in_default-clause-slots : goal.returns-in_default-clause-slots
+returns-in_default-clause-slots g c = λ f. absurd (false≢true f)
