@@ -60,23 +60,27 @@ pub returns-in_err-geometry-clause-clean : goal.returns-in_err-geometry-clause-c
 returns-in_err-geometry-clause-clean g c = if_ended _ _ c.from_residual.result c.from_residual.ensures.1
 
 pub returns-in_err-area-clause-clean : goal.returns-in_err-area-clause-clean
-returns-in_err-area-clause-clean g c = let left = c.from_residual-in_err-area in if_ended _ _ left.result left.ensures.1
+returns-in_err-area-clause-clean g c =
+    let left = c.from_residual-in_err-area in if_ended _ _ left.result left.ensures.1
 
 pub returns-in_err-inodes-clause-clean : goal.returns-in_err-inodes-clause-clean
-returns-in_err-inodes-clause-clean g c = let left = c.from_residual-in_err-inodes in if_ended _ _ left.result left.ensures.1
+returns-in_err-inodes-clause-clean g c =
+    let left = c.from_residual-in_err-inodes in if_ended _ _ left.result left.ensures.1
 
 pub returns-in_err-owned-clause-clean : goal.returns-in_err-owned-clause-clean
-returns-in_err-owned-clause-clean g c = let left = c.from_residual-in_err-owned in if_ended _ _ left.result left.ensures.1
+returns-in_err-owned-clause-clean g c =
+    let left = c.from_residual-in_err-owned in if_ended _ _ left.result left.ensures.1
 
 -- what the superblock says stays so while the disk is only read
-geometry_still : {p : Geometry} {old mid : DiskState} → OnlyReads old mid → IsGeometryOf old.size (sector old.seen) p
-    → IsGeometryOf mid.size (sector mid.seen) p
+geometry_still : {p : Geometry} {old mid : DiskState} → OnlyReads old mid
+    → IsGeometryOf old.size (sector old.seen) p → IsGeometryOf mid.size (sector mid.seen) p
 geometry_still {p} {old} {mid} reads x =
     subst (λ (i : Image). IsGeometryOf mid.size (sector i) p) (sym reads.narrowed.seen)
     (subst (λ (n : ℕ). IsGeometryOf n (sector old.seen) p) (sym reads.narrowed.size) x)
 
 pub open_commit-requires : goal.open_commit-requires
-open_commit-requires g c = geometry_still c.in_ok-geometry.ensures.passed.reads c.in_ok-geometry.ensures.geometry
+open_commit-requires g c =
+    geometry_still c.in_ok-geometry.ensures.passed.reads c.in_ok-geometry.ensures.geometry
 
 pub check_tables-requires-clause-opened : goal.check_tables-requires-clause-opened
 check_tables-requires-clause-opened g c =
@@ -101,7 +105,8 @@ check_inodes-requires-clause-inodes g c =
     let m = meaning (g.D.Disk.state c.check_tables.new.disk) in
     let read = c.in_ok-inodes.ensures in
     record {
-      table = subst (AreInodes c.in_ok-geometry.geometry m) (sym c.deref.ensures.value) (table_still read.passed.reads read.table);
+      table = subst (AreInodes c.in_ok-geometry.geometry m) (sym c.deref.ensures.value)
+          (table_still read.passed.reads read.table);
       before = before_still read.passed.reads read.before;
     }
 

@@ -63,6 +63,9 @@ check_tree-requires g c =
 pub check_owners-requires-clause-opened : goal.check_owners-requires-clause-opened
 check_owners-requires-clause-opened g c = c.requires.opened
 
+pub returns-clause-owners : goal.returns-clause-owners
+returns-clause-owners g c = c.in_ok-owned.ensures.owners
+
 pub check_owners-requires-clause-inodes : goal.check_owners-requires-clause-inodes
 check_owners-requires-clause-inodes g c = c.requires.inodes
 
@@ -75,6 +78,3 @@ returns-in_err-owned-clause-before g c = on_ended _ _ c.from_residual.result c.f
 pub returns-in_err-check_tree-clause-owners : goal.returns-in_err-check_tree-clause-owners
 returns-in_err-check_tree-clause-owners g c =
     let left = c.from_residual-in_err-check_tree in if_ended _ _ left.result left.ensures.1
-
-pub returns-clause-owners : goal.returns-clause-owners
-returns-clause-owners g c = c.in_ok-owned.ensures.owners

@@ -126,36 +126,42 @@ returns-in_err-slots-clause-names g c = if_ended _ _ c.from_residual.result c.fr
 
 -- a slot of a directory names an inode that the tables have
 named_there : (p : Geometry) (m : SectorMap) (v : Inode) (slots here : List NamedInode) (table whole : List ℕ)
-    → HasGoodSlots p m v × AreSlots p.version m v slots → here ≡ slots → table ≡ whole → length whole ≡ p.inodes
+    → HasGoodSlots p m v × AreSlots p.version m v slots → here ≡ slots → table ≡ whole
+    → length whole ≡ p.inodes
     → (k : ℕ) (d : NamedInode) → k < length here → (get_or here k d).ino < length table
 named_there p m v slots here table whole found is same len k d lt =
     let all = found.1.len in
     let seen = ap length is in
     let below : k < slot_count p.version v = omega (arith, lt, all, seen) in
     let low = (found.0 k below).below in
-    let named = ap (λ (l : List NamedInode). (get_or l k d).ino) is ∙ ap (λ (x : NamedInode). x.ino) (found.1.each k d below) in
+    let named = ap (λ (l : List NamedInode). (get_or l k d).ino) is
+    ∙ ap (λ (x : NamedInode). x.ino) (found.1.each k d below) in
     let size = ap length same in
     omega (arith, named, low, size, len)
 
 pub add_slots-requires-clause-counts : goal.add_slots-requires-clause-counts
 add_slots-requires-clause-counts g c =
     named_there c.args.opened.now.geometry (meaning (g.D.Disk.state c.args.disk.now))
-    (get_or c.args.inodes.now c.args.dir_ino blank) c.in-Some.slots.items c.deref.result.now c.deref_mut.result.now
-    c.args.names.now.counts.items (MatchOption-at_some _ _ c.in-Some.slots c.in-Some.is c.in_ok-slots.ensures.slots)
+    (get_or c.args.inodes.now c.args.dir_ino blank) c.in-Some.slots.items c.deref.result.now
+    c.deref_mut.result.now c.args.names.now.counts.items
+    (MatchOption-at_some _ _ c.in-Some.slots c.in-Some.is c.in_ok-slots.ensures.slots)
     c.deref.ensures.value c.deref_mut.ensures.value c.requires.names.tally.counts_len
 
 pub add_slots-requires-clause-directories : goal.add_slots-requires-clause-directories
 add_slots-requires-clause-directories g c =
     named_there c.args.opened.now.geometry (meaning (g.D.Disk.state c.args.disk.now))
-    (get_or c.args.inodes.now c.args.dir_ino blank) c.in-Some.slots.items c.deref.result.now c.deref_mut-2.result.now
-    c.args.names.now.directories.items (MatchOption-at_some _ _ c.in-Some.slots c.in-Some.is c.in_ok-slots.ensures.slots)
+    (get_or c.args.inodes.now c.args.dir_ino blank) c.in-Some.slots.items c.deref.result.now
+    c.deref_mut-2.result.now c.args.names.now.directories.items
+    (MatchOption-at_some _ _ c.in-Some.slots c.in-Some.is c.in_ok-slots.ensures.slots)
     c.deref.ensures.value c.deref_mut-2.ensures.value c.requires.names.tally.directories_len
 
 pub returns-then-ne-clause-test : goal.returns-then-ne-clause-test
 returns-then-ne-clause-test g c =
     let m = meaning (g.D.Disk.state c.args.disk.now) in
-    let here = inode_here c.args.opened.now.geometry m c.args.inodes.now c.args.dir_ino blank c.requires.inodes.table c.requires.below in
-    let other = no_directory (get_or c.args.inodes.now c.args.dir_ino blank).kind (where_not _ c.if-ne.ensures) in
+    let here = inode_here c.args.opened.now.geometry m c.args.inodes.now c.args.dir_ino blank
+    c.requires.inodes.table c.requires.below in
+    let kind = (get_or c.args.inodes.now c.args.dir_ino blank).kind in
+    let other = no_directory kind (where_not _ c.if-ne.ensures) in
     ((λ t lt is. absurd (other (ap (λ (v : Inode). v.kind) here ∙ is))), (λ o. refl))
 
 pub returns-in_default-clause-test : goal.returns-in_default-clause-test
@@ -168,7 +174,8 @@ returns-in_default-clause-test g c =
     let here = inode_here p m c.args.inodes.now c.args.dir_ino blank table c.requires.below in
     let below = within p m c.args.inodes.now c.args.dir_ino table c.requires.below in (
       (λ f. absurd (false≢true f)),
-      (λ o. absurd (bad (subst (HasGoodSlots p m) (sym here) (o below (sym (ap (λ (v : Inode). v.kind) here) ∙ is))))),
+      (λ o. absurd (bad (subst (HasGoodSlots p m) (sym here)
+          (o below (sym (ap (λ (v : Inode). v.kind) here) ∙ is))))),
     )
 
 pub returns-in_default-clause-names : goal.returns-in_default-clause-names

@@ -1,4 +1,4 @@
-use Rattle.std.proofs.Common.{get_or, arith, ◌∙◌, subst}
+use Rattle.std.proofs.Common.{ℕ, get_or, arith, ◌∙◌, subst}
 use Rattle.std.proofs.lemmas.List.{get_or_default}
 use Rattle.fs_layout.specs.declared.inode.Inode.{Inode}
 use Rattle.fs_layout.specs.Inode.{free_inode}
@@ -19,9 +19,12 @@ loop-ino-preserved c =
     let lt = c.loop-ino-test.true in
     let few = c.requires.few in
     let len = c.requires.counts_len in
-    let count = c.index-count.ensures ∙ get_or_default counts n c.index-count.result.now 0 (omega (arith, lt, few, len)) in
-    more_good (λ k. HasNameCount version (get_or inodes k free_inode).kind k (get_or inodes k free_inode).names (get_or counts k 0)) n
+    let count = c.index-count.ensures
+    ∙ get_or_default counts n c.index-count.result.now 0 (omega (arith, lt, few, len)) in
+    let at = λ (k : ℕ). get_or inodes k free_inode in
+    more_good (λ k. HasNameCount version (at k).kind k (at k).names (get_or counts k 0)) n
     c.loop-ino.invariant
-    (subst (λ k. HasNameCount version (get_or inodes n free_inode).kind n (get_or inodes n free_inode).names k) count
-    (subst (λ (v : Inode). HasNameCount version v.kind n v.names c.index-count.result.now) (get_or_default inodes n blank free_inode lt)
+    (subst (HasNameCount version (at n).kind n (at n).names) count
+    (subst (λ (v : Inode). HasNameCount version v.kind n v.names c.index-count.result.now)
+    (get_or_default inodes n blank free_inode lt)
     (c.has_name_count.ensures.0 c.if-not-has_name_count.false)))

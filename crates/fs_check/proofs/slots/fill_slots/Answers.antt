@@ -106,12 +106,14 @@ pub read_block_of-requires-clause-opened : goal.read_block_of-requires-clause-op
 read_block_of-requires-clause-opened g c = opened_still c.loop-k.invariant.reads c.requires.opened
 
 pub read_block_of-requires-clause-at_hand : goal.read_block_of-requires-clause-at_hand
-read_block_of-requires-clause-at_hand g c = hand_still c.loop-k.invariant.reads c.loop-k.pointers c.loop-k.invariant.at_hand
+read_block_of-requires-clause-at_hand g c =
+    hand_still c.loop-k.invariant.reads c.loop-k.pointers c.loop-k.invariant.at_hand
 
 pub read_block_of-requires-clause-before : goal.read_block_of-requires-clause-before
 read_block_of-requires-clause-before g c = λ inside.
     c.loop-k.invariant.block inside
-    ∙ sym (ap (λ (m : SectorMap). block_of_slot c.args.opened.now.geometry.version m c.args.inode.now c.loop-k.k)
+    ∙ sym (ap
+    (λ (m : SectorMap). block_of_slot c.args.opened.now.geometry.version m c.args.inode.now c.loop-k.k)
     (meaning_same c.loop-k.invariant.reads))
 
 pub returns-in_default-clause-slots : goal.returns-in_default-clause-slots

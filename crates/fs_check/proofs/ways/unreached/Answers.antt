@@ -29,10 +29,12 @@ goes_up-requires-clause-len c = ap length c.deref_mut.ensures.value ∙ c.loop-d
 
 pub goes_up-requires-clause-earlier : goal.goes_up-requires-clause-earlier
 goes_up-requires-clause-earlier c =
-    subst (λ (l : List ℕ). (n : ℕ) → get_or l n 0 < c.loop-dir_ino.dir_ino) (sym c.deref_mut.ensures.value) c.loop-dir_ino.invariant.earlier
+    subst (λ (l : List ℕ). (n : ℕ) → get_or l n 0 < c.loop-dir_ino.dir_ino) (sym c.deref_mut.ensures.value)
+    c.loop-dir_ino.invariant.earlier
 
 pub goes_up-requires-clause-climb : goal.goes_up-requires-clause-climb
-goes_up-requires-clause-climb c = subst (AllClimb c.args.inodes.now) (sym c.deref_mut.ensures.value) c.loop-dir_ino.invariant.climb
+goes_up-requires-clause-climb c =
+    subst (AllClimb c.args.inodes.now) (sym c.deref_mut.ensures.value) c.loop-dir_ino.invariant.climb
 
 pub returns-in_err-marks : goal.returns-in_err-marks
 returns-in_err-marks c = if_ended _ _ c.from_residual.result c.from_residual.ensures.1
@@ -58,7 +60,8 @@ loop-dir_ino-preserved c =
       | else-eq-via-then-eq+else-not-goes_up w ↦
           let up = w.goes_up.ensures in
           let held = ap length w.deref_mut.ensures.value ∙ so_far.len in
-          let same : w.goes_up.new.marks ≡ c.else-eq.marks.items = sym (ap (λ (v : Vec ℕ Global). v.items) w.marks-is
+          let same : w.goes_up.new.marks ≡ c.else-eq.marks.items =
+          sym (ap (λ (v : Vec ℕ Global). v.items) w.marks-is
           ∙ take_at w.goes_up.new.marks _ c.loop-dir_ino.marks.len (up.len ∙ sym held ∙ w.deref_mut.ensures.len)) in
           record {
             len = sym (ap length same) ∙ up.len;
@@ -67,12 +70,14 @@ loop-dir_ino-preserved c =
             so_far = one_more inodes d so_far.so_far (λ is. up.reaches.0 w.if-not-goes_up.false);
           }
       | else-eq-via-else-eq w ↦
-          let same : c.loop-dir_ino.marks.items ≡ c.else-eq.marks.items = sym (ap (λ (v : Vec ℕ Global). v.items) w.marks-is) in
+          let same : c.loop-dir_ino.marks.items ≡ c.else-eq.marks.items =
+          sym (ap (λ (v : Vec ℕ Global). v.items) w.marks-is) in
           let here = ap (λ (v : Inode). v.kind) (get_or_default inodes d blank free_inode c.loop-dir_ino-test.true) in
           let other = no_directory (get_or inodes d blank).kind w.if-eq.ensures in
           record {
             len = sym (ap length same) ∙ so_far.len;
-            earlier = subst (λ (l : List ℕ). (n : ℕ) → get_or l n 0 < d + 1) same (below_more c.loop-dir_ino.marks.items d so_far.earlier);
+            earlier = subst (λ (l : List ℕ). (n : ℕ) → get_or l n 0 < d + 1) same
+                (below_more c.loop-dir_ino.marks.items d so_far.earlier);
             climb = subst (AllClimb inodes) same so_far.climb;
             so_far = one_more inodes d so_far.so_far (λ is. absurd (other (here ∙ is)));
           }
