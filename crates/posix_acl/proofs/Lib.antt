@@ -13,3 +13,5 @@ pub mod OneList
 pub mod NoFault
 pub mod ReadBack
 pub mod Laws
+pub mod Copied
+pub mod Memory

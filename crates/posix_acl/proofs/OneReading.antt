@@ -60,7 +60,8 @@ kind_same Mask Mask same = refl
 kind_same Other Other same = refl
 kind_same a b same = absurd (omega arith)
 
-tag_same : (a b : Tag) (word : List ℕ) → IsWordOf a word → IsWordOf b word → is_named a ≡ is_named b → a ≡ b
+pub tag_same : (a b : Tag) (word : List ℕ) → IsWordOf a word → IsWordOf b word → is_named a ≡ is_named b
+    → a ≡ b
 tag_same a b word is_a is_b named =
     let first : initial a ≡ initial b = sym (has_initial a word is_a) ∙ has_initial b word is_b in
     kind_same a b (ap (λ n. 2 * n + cond (is_named a) 1 0) first ∙ ap (λ n. 2 * initial b + cond n 1 0) named)
@@ -73,7 +74,8 @@ id_same Group i j name a b = let x = a.fits in let y = b.fits in decimal_injecti
 id_same Mask i j name a b = a.none refl ∙ sym (b.none refl)
 id_same Other i j name a b = a.none refl ∙ sym (b.none refl)
 
-fields_same : (word name letters : List ℕ) (e f : Entry) → AreFieldsOf word name letters e → AreFieldsOf word name letters f → e ≡ f
+pub fields_same : (word name letters : List ℕ) (e f : Entry) → AreFieldsOf word name letters e
+    → AreFieldsOf word name letters f → e ≡ f
 fields_same word name letters e f a b =
     let named : is_named e.tag ≡ is_named f.tag = named_alike e.tag e.id name a.name_is ∙ sym (named_alike f.tag f.id name b.name_is) in
     let tags : e.tag ≡ f.tag = tag_same e.tag f.tag word a.word_is b.word_is named in
@@ -82,7 +84,8 @@ fields_same word name letters e f a b =
     let same : entry e.tag e.id e.perms ≡ entry f.tag f.id f.perms = rw (tags, ids, all) refl in
     same
 
-entry_same : (fields : List (List ℕ)) (e f : Entry) → AreEntryFields fields e → AreEntryFields fields f → e ≡ f
+pub entry_same : (fields : List (List ℕ)) (e f : Entry) → AreEntryFields fields e → AreEntryFields fields f
+    → e ≡ f
 entry_same [] e f a b = absurd a
 entry_same (word ∷ []) e f a b = absurd a
 entry_same (word ∷ letters ∷ []) e f a b = fields_same word [] letters e f a.1 b.1

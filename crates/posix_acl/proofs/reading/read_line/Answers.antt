@@ -1,10 +1,16 @@
-use Rattle.std.proofs.Common.{◌≡◌, true, false, sym, ap, ◌∙◌, subst, length, get_or, rules, tests, ◌++◌, ◌∷◌, []}
+use Rattle.std.proofs.Common.{◌≡◌, true, false, sym, ap, ◌∙◌, subst, length, refl, append-nil, ◌≢◌, get_or, rules, tests, ◌++◌, ◌∷◌, []}
 use Rattle.std.specs.List.{slice_split}
 use Rattle.std.proofs.lemmas.Iterator.Consumers.{YieldsList-turn, YieldsList-end}
 use Rattle.std.proofs.lemmas.Iterator.Splits.{YieldsList-from_slice_split}
-use Rattle.posix_acl.specs.Text.{is_comma, is_empty_piece, without_blanks, kept_pieces, IsEntryText, AreEntryTexts, AppendsEntries}
+use Rattle.std.proofs.lemmas.Result.{IfOk-from_err}
+use Rattle.posix_acl.specs.declared.fault.AclFault.TheVariants.{OutOfMemory, BadText}
+use Rattle.posix_acl.proofs.Memory.{out_of_memory}
+use Rattle.posix_acl.specs.Text.{IsNoText, line_pieces, is_comma, is_empty_piece, without_blanks, kept_pieces, IsEntryText, AreEntryTexts, AppendsEntries}
 use Rattle.posix_acl.proofs.Pieces.{bad_piece, empty_piece, one_piece}
 use Rattle.posix_acl.proofs.reading.read_line.Goals as goal
+
+pub loop-piece-init : goal.loop-piece-init
+loop-piece-init c = ([], tt, sym (append-nil c.args.entries.now.items))
 
 pub returns-in_default-clause-bad : goal.returns-in_default-clause-bad
 returns-in_default-clause-bad c = λ _ es are.
@@ -39,3 +45,16 @@ returns-clause-found c =
     c.loop-piece.yielded _ c.loop-piece.yielded_by _ _ c.in-None.is c.next.ensures.steps in
     subst (λ ps. AppendsEntries c.args.entries.now.items c.loop-piece.entries.items ps)
     (ap kept_pieces end.0 ∙ ap (λ l. kept_pieces (slice_split is_comma l)) c.uncommented-line.ensures) c.loop-piece.invariant
+
+pub returns-in_err-push-clause-found : goal.returns-in_err-push-clause-found
+returns-in_err-push-clause-found c = IfOk-from_err c.from_residual.result _ c.from_residual.ensures.0
+
+pub returns-in_err-push-clause-bad : goal.returns-in_err-push-clause-bad
+returns-in_err-push-clause-bad c =
+    out_of_memory c.from_residual.result (λ fault. fault ≡ BadText → IsNoText (line_pieces c.args.line.now))
+    (λ same. absurd (cc)) c.from_residual.ensures.1
+
+pub returns-in_err-push-clause-err : goal.returns-in_err-push-clause-err
+returns-in_err-push-clause-err c =
+    out_of_memory c.from_residual.result (λ fault. fault ≢ OutOfMemory → fault ≡ BadText)
+    (λ other. absurd (other refl)) c.from_residual.ensures.1
