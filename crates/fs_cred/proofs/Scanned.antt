@@ -1,5 +1,7 @@
 -- Reading the entries of a list one after another finds what the list has.
-use Rattle.std.proofs.Common.{◌≡◌, ℕ, ◌==◌, Bool, true, false, ◌&&◌, List, [], ◌∷◌, ◌++◌, Option, Some, None, is_some, cond, refl, ap, ◌∙◌}
+use Rattle.std.proofs.Common.{◌≡◌, ◌≢◌, ℕ, ◌+◌, ◌<◌, ◌==◌, Bool, true, false, ◌&&◌, List, [], ◌∷◌, ◌++◌, Option, Some, None, is_some, cond, length, get_or, drop, refl, sym, ap, ◌∙◌, arith}
+use Rattle.std.proofs.lemmas.Bool.Decides.{nat_tests}
+use Rattle.std.proofs.lemmas.List.{at_drop_more}
 use Rattle.posix_acl.specs.declared.entry.Perms.{Perms}
 use Rattle.posix_acl.specs.declared.entry.Entry.{Entry}
 use Rattle.posix_acl.specs.declared.entry.Tag.{Tag}
@@ -65,3 +67,52 @@ group_found cred node want =
     group_past_users cred node.group want node.acl.users _
     ∙ one_more cred node.group want (is_member cred node.group) (holds node.acl.group want) OwningGroup _ _
     (group_first cred node.group want node.acl.groups _ (group_last cred node.group want node.acl.mask node.acl.other))
+
+-- ---- one step of a loop over the entries
+
+pub same_id : (a b : ℕ) → a ≡ b → (a == b) ≡ true
+same_id a b same = grind (arith, nat_tests)
+
+pub other_id : (a b : ℕ) → a ≢ b → (a == b) ≡ false
+other_id a b other = grind (arith, nat_tests)
+
+module _ (user : ℕ) (es : List Entry) (i : ℕ) (d : Entry) (found : Option Perms) (below : i < length es)
+    (so_far : user_in user (drop i es) ≡ found) where
+  user_test : (passes : Bool) → (is_tag (get_or es i d).tag User && (get_or es i d).id == user) ≡ passes
+      → cond passes (Some (get_or es i d).perms) (user_in user (drop (i + 1) es)) ≡ found
+  user_test passes is =
+      ap (λ t. cond t (Some (get_or es i d).perms) (user_in user (drop (i + 1) es))) (sym is)
+      ∙ sym (at_drop_more (user_in user) es i d below) ∙ so_far
+
+  pub user_here : is_tag (get_or es i d).tag User ≡ true → (get_or es i d).id ≡ user
+      → Some (get_or es i d).perms ≡ found
+  user_here tagged same = user_test true (ap (λ t. t && (get_or es i d).id == user) tagged ∙ same_id _ _ same)
+
+  pub user_passed : (tagged same : Bool) → is_tag (get_or es i d).tag User ≡ tagged
+      → ((get_or es i d).id == user) ≡ same
+      → (tagged && same) ≡ false → user_in user (drop (i + 1) es) ≡ found
+  user_passed tagged same a b none = user_test false
+      (ap (λ t. t && (get_or es i d).id == user) a ∙ ap (λ t. tagged && t) b ∙ none)
+
+module _ (cred : Credential) (owning_group : ℕ) (want : Perms) (es : List Entry) (i : ℕ) (d : Entry)
+    (found : Option Rule) (below : i < length es)
+    (so_far : group_in cred owning_group want (drop i es) ≡ found) where
+  abbrev rule_here : Option Rule
+  rule_here = group_rule cred owning_group (get_or es i d)
+
+  group_test : (passes : Bool) → (is_some rule_here && holds (get_or es i d).perms want) ≡ passes
+      → cond passes rule_here (group_in cred owning_group want (drop (i + 1) es)) ≡ found
+  group_test passes is =
+      ap (λ t. cond t rule_here (group_in cred owning_group want (drop (i + 1) es))) (sym is)
+      ∙ sym (at_drop_more (group_in cred owning_group want) es i d below) ∙ so_far
+
+  pub group_here : is_some (group_rule cred owning_group (get_or es i d)) ≡ true
+      → holds (get_or es i d).perms want ≡ true
+      → group_rule cred owning_group (get_or es i d) ≡ found
+  group_here some held = group_test true (ap (λ t. t && holds (get_or es i d).perms want) some ∙ held)
+
+  pub group_passed : (some held : Bool) → is_some (group_rule cred owning_group (get_or es i d)) ≡ some
+      → holds (get_or es i d).perms want ≡ held
+      → (some && held) ≡ false → group_in cred owning_group want (drop (i + 1) es) ≡ found
+  group_passed some held a b none = group_test false
+      (ap (λ t. t && holds (get_or es i d).perms want) a ∙ ap (λ t. some && t) b ∙ none)
