@@ -1,8 +1,7 @@
 -- Which directory names a node, and the way from a directory up to the root, where names change.
 use Rattle.std.specs.Prelude.{◌≡◌, ◌≢◌, ℕ, ◌+◌, ◌<◌, ◌≤◌, ◌==◌, nat_lt, Bool, true, false, cond, [], ◌∷◌, Option, None, Some, IsTrue, ◌⊎◌}
 use Rattle.std.proofs.Common.{refl, sym, ap, arith, ◌∙◌, subst, inl, inr}
-use Rattle.std.proofs.lemmas.Bool.{cases_eq}
-use Rattle.std.proofs.lemmas.Bool.Decides.{nat_tests}
+use Rattle.std.proofs.lemmas.Bool.{cases_eq, lt-ltb, ltb-false, ltb-true, ne_eqb}
 use Rattle.std.proofs.lemmas.List.Sums.{sum_by-cons}
 use Rattle.std.specs.Ordering.{nat_cmp}
 use Rattle.fs_model.specs.Limits.{root}
@@ -43,7 +42,7 @@ node_names [] k v x at some one = absurd cc
 node_names (e ∷ t) k v x at some one = elim (in_rest e t k v at) [
   | inl w ↦
       let same : names_for x v.body ≡ names_for x e.1.body = ap (λ q. names_for x q.body) w.1 in
-      let here : nat_lt 0 (names_for x e.1.body) ≡ true = (let more : 0 < names_for x e.1.body = omega (arith, same, some) in grind (arith, nat_tests)) in
+      let here : nat_lt 0 (names_for x e.1.body) ≡ true = lt-ltb 0 (names_for x e.1.body) (omega (arith, same, some)) in
       ap (λ b. cond b e.0 (parent t x)) here ∙ sym w.0
   | inr w ↦
       let rest = among t k v x w in
@@ -75,10 +74,10 @@ parent_names (e ∷ t) x m some = go (nat_lt 0 (names_for x e.1.body)) refl (λ 
     go : (b : Bool) → nat_lt 0 (names_for x e.1.body) ≡ b → (1 ≤ names_of t x → 1 ≤ leading x (names_at t (parent t x)))
         → 1 ≤ leading x (names_at (e ∷ t) (cond b e.0 (parent t x)))
     go true l rest =
-        let more : 1 ≤ names_for x e.1.body = grind (arith, nat_tests) in
+        let more : 1 ≤ names_for x e.1.body = omega (arith, ltb-true 0 (names_for x e.1.body) l) in
         subst (λ o. 1 ≤ leading x (names_or o)) (sym (at_same e t)) more
     go false l rest =
-        let none : names_for x e.1.body ≡ 0 = grind (arith, nat_tests) in
+        let none : names_for x e.1.body ≡ 0 = omega (arith, ltb-false 0 (names_for x e.1.body) l) in
         let all = names_of-cons x e t in
         behind (node_at t (parent t x)) refl (rest (omega (arith, none, all, some)))
 
@@ -117,7 +116,7 @@ directory_if t k x some = go (node_at t k) refl some
 
 once_named : (room : Room) (n : ℕ) (b : Body) (names : ℕ) → IsTrue (is_directory b) → n ≢ root → NamesFit room n b names → names ≡ 1
 once_named room n (File a bytes) names d ne fits = absurd cc
-once_named room n (Dir a dir_ino) names d ne fits = let other : (n == root) ≡ false = grind (arith, nat_tests) in fits ∙ ap (λ q. cond q 0 1) other
+once_named room n (Dir a dir_ino) names d ne fits = let other : (n == root) ≡ false = ne_eqb n root ne in fits ∙ ap (λ q. cond q 0 1) other
 once_named room n (Link target) names d ne fits = absurd cc
 
 module _ (room : Room) (t : Tree) (is : IsTree room t) where
