@@ -1,5 +1,5 @@
 -- What each call asks depends on no byte of a file.
-use Rattle.std.specs.Prelude.{◌≡◌, ℕ, ◌-◌, ◌==◌, nat_le, true, false, not, List, ◌++◌, length, Option, is_some, ℤ}
+use Rattle.std.specs.Prelude.{◌≡◌, ℕ, ◌-◌, ◌==◌, nat_le, Bool, true, false, not, List, ◌++◌, length, Option, is_some, if◌then◌else◌, ℤ}
 use Rattle.std.proofs.Common.{refl, ap, ◌∙◌}
 use Rattle.posix_acl.specs.declared.entry.Perms.{Perms}
 use Rattle.posix_acl.specs.AccessList.{AccessList}
@@ -12,9 +12,9 @@ use Rattle.fs_model.specs.Nodes.{directory_in, is_directory, is_link, names_of_b
 use Rattle.fs_model.specs.Trees.{is_within}
 use Rattle.fs_model.specs.Processes.{the_descriptor}
 use Rattle.fs_model.specs.Births.{the_node}
-use Rattle.fs_model.specs.Demands.{refuse, perms, only_if}
+use Rattle.fs_model.specs.Demands.{Demand, refuse, perms, only_if}
 use Rattle.fs_model.specs.declared.walk.Found.{Found}
-use Rattle.fs_model.specs.Scenes.{Scene, found_ino, permission_at_end, permission_at_dir, sticky_at_dir, own_at_end, no_inodes, no_names, space_to_make}
+use Rattle.fs_model.specs.Scenes.{Scene, found_ino, is_found, permission_at_end, permission_at_dir, sticky_at_dir, own_at_end, no_inodes, no_names, space_to_make}
 use Rattle.fs_model.specs.OpenCall.{open_demands, open_found_demands, open_new_demands}
 use Rattle.fs_model.specs.DescriptorCalls.{read_demands, write_demands, write_offset, lseek_demands, sought, readdir_demands}
 use Rattle.fs_model.specs.AttributeCalls.{access_demands, truncate_demands, chmod_demands, chown_demands, set_acl_demands, chdir_demands}
@@ -22,6 +22,19 @@ use Rattle.fs_model.specs.NameCalls.{mkdir_demands, rmdir_demands, unlink_demand
 use Rattle.fs_model.specs.RenameCall.{rename_demands, rename_name_demands, rename_permissions, rename_kinds, rename_directories, rename_moved, rename_space, is_same}
 use Rattle.fs_model.proofs.Veils.{names_in-blotted, directory_in-blotted, is_link-blotted, permission_on-veil, search_on-veil}
 use Rattle.fs_model.proofs.VeiledScenes.{veiled_scene, the_node-veil, names_of-veil, size-blotted, is_within-veil, length-veil}
+
+-- what a rename asks, part by part
+all_asked : {n names p permissions k kinds d directories m moved s space : List Demand} (b : Bool) → n ≡ names
+    → p ≡ permissions → k ≡ kinds → d ≡ directories → m ≡ moved → s ≡ space
+    → (n ++ only_if b (p ++ k ++ d ++ m ++ s))
+    ≡ (names ++ only_if b (permissions ++ kinds ++ directories ++ moved ++ space))
+all_asked b of_names of_permissions of_kinds of_directories of_moved of_space =
+    rw (of_names, of_permissions, of_kinds, of_directories, of_moved, of_space) refl
+
+-- what is asked of what is there, and where nothing is
+either_asked : {found founds new news : List Demand} (b : Bool) → found ≡ founds → new ≡ news
+    → (if b then found else new) ≡ (if b then founds else news)
+either_asked b of_found of_new = rw (of_found, of_new) refl
 
 module _ (c : Scene) where
   abbrev v : Scene
@@ -69,7 +82,7 @@ module _ (c : Scene) where
   truncate_asks size =
       let a = is_directory_at (found_ino c.first) in
       let b = end c.first 1 (perms false true false) in
-      cc
+      rw (a, b) refl
 
   space : space_to_make v ≡ space_to_make c
   space = let a = full c.first in let b = no_room in cc
@@ -82,7 +95,7 @@ module _ (c : Scene) where
       let a = directory_at f.dir_ino in
       let b = owner_at f.dir_ino in
       let d = owner_at (found_ino f) in
-      cc
+      rw (a, b, d) refl
 
   own : own_at_end v ≡ own_at_end c
   own = let a = owner_at (found_ino c.first) in cc
@@ -112,19 +125,19 @@ module _ (c : Scene) where
   chown_asks owner group =
       let a = owner_at (found_ino c.first) in
       let b = group_at (found_ino c.first) in
-      cc
+      rw (a, b) refl
 
   pub set_acl_asks : (which : AclType) (acl : Option AccessList) → set_acl_demands which acl v ≡ set_acl_demands which acl c
   set_acl_asks which acl =
       let a = is_directory_at (found_ino c.first) in
       let b = own in
-      cc
+      rw (a, b) refl
 
   pub chdir_asks : chdir_demands v ≡ chdir_demands c
   chdir_asks =
       let a = is_directory_at (found_ino c.first) in
       let b = search_on-veil c.process.cred c.state.tree (found_ino c.first) 1 c.first.step in
-      cc
+      rw (a, b) refl
 
   pub read_asks : (fd : ℕ) → read_demands fd v ≡ read_demands fd c
   read_asks fd = let a = is_directory_at (the_descriptor c.process fd).ino in cc
@@ -147,26 +160,26 @@ module _ (c : Scene) where
   lseek_asks fd whence by =
       let a = is_directory_at (the_descriptor c.process fd).ino in
       let b = sought-veil fd whence by in
-      cc
+      rw (a, b) refl
 
   open_found_asks : (flags : Flags) → open_found_demands flags v ≡ open_found_demands flags c
   open_found_asks flags =
       let a = is_directory_at (found_ino c.first) in
       let b = link_at (found_ino c.first) in
       let d = end c.first 1 (perms flags.read flags.write false) in
-      cc
+      rw (a, b, d) refl
 
   open_new_asks : (flags : Flags) → open_new_demands flags v ≡ open_new_demands flags c
   open_new_asks flags = let a = dir_ino c.first 1 in let b = space in cc
 
   pub open_asks : (flags : Flags) → open_demands flags v ≡ open_demands flags c
-  open_asks flags = let a = open_found_asks flags in let b = open_new_asks flags in cc
+  open_asks flags = either_asked (is_found c.first) (open_found_asks flags) (open_new_asks flags)
 
   rename_names_ask : rename_name_demands v ≡ rename_name_demands c
   rename_names_ask =
       let a = is_directory_at (found_ino c.first) in
       let b = is_directory_at (found_ino c.second) in
-      cc
+      rw (a, b) refl
 
   rename_permissions_ask : rename_permissions v ≡ rename_permissions c
   rename_permissions_ask =
@@ -174,13 +187,13 @@ module _ (c : Scene) where
       let b = dir_ino c.second 2 in
       let d = sticky c.first 1 in
       let e = sticky c.second 2 in
-      cc
+      rw (a, b, d, e) refl
 
   rename_kinds_ask : rename_kinds v ≡ rename_kinds c
   rename_kinds_ask =
       let a = is_directory_at (found_ino c.first) in
       let b = is_directory_at (found_ino c.second) in
-      cc
+      rw (a, b) refl
 
   within : (far : ℕ) → is_within far v.state.tree (found_ino c.first) c.second.dir_ino ≡ is_within far c.state.tree (found_ino c.first) c.second.dir_ino
   within far = is_within-veil far c.state.tree (found_ino c.first) c.second.dir_ino
@@ -193,28 +206,18 @@ module _ (c : Scene) where
       let e : is_within (length v.state.tree) v.state.tree (found_ino c.first) c.second.dir_ino
       ≡ is_within (length c.state.tree) c.state.tree (found_ino c.first) c.second.dir_ino =
       ap (λ k. is_within k v.state.tree (found_ino c.first) c.second.dir_ino) (length-veil c.state.tree) ∙ within (length c.state.tree) in
-      cc
+      rw (a, b, d, e) refl
 
   rename_moved_ask : rename_moved v ≡ rename_moved c
   rename_moved_ask =
       let a = is_directory_at (found_ino c.first) in
       let b = end c.first 1 (perms false true false) in
-      cc
+      rw (a, b) refl
 
   rename_space_ask : rename_space v ≡ rename_space c
   rename_space_ask = let a = full c.second in cc
 
   pub rename_asks : rename_demands v ≡ rename_demands c
   rename_asks =
-      let a = rename_names_ask in
-      let b = rename_permissions_ask in
-      let d = rename_kinds_ask in
-      let e = rename_directories_ask in
-      let f = rename_moved_ask in
-      let g = rename_space_ask in
-      ap (λ ds. ds ++ only_if (not (is_same v)) (rename_permissions v ++ rename_kinds v ++ rename_directories v ++ rename_moved v ++ rename_space v)) a
-      ∙ ap (λ ds. rename_name_demands c ++ only_if (not (is_same c)) (ds ++ rename_kinds v ++ rename_directories v ++ rename_moved v ++ rename_space v)) b
-      ∙ ap (λ ds. rename_name_demands c ++ only_if (not (is_same c)) (rename_permissions c ++ ds ++ rename_directories v ++ rename_moved v ++ rename_space v)) d
-      ∙ ap (λ ds. rename_name_demands c ++ only_if (not (is_same c)) (rename_permissions c ++ rename_kinds c ++ ds ++ rename_moved v ++ rename_space v)) e
-      ∙ ap (λ ds. rename_name_demands c ++ only_if (not (is_same c)) (rename_permissions c ++ rename_kinds c ++ rename_directories c ++ ds ++ rename_space v)) f
-      ∙ ap (λ ds. rename_name_demands c ++ only_if (not (is_same c)) (rename_permissions c ++ rename_kinds c ++ rename_directories c ++ rename_moved c ++ ds)) g
+      all_asked (not (is_same c)) rename_names_ask rename_permissions_ask rename_kinds_ask rename_directories_ask
+      rename_moved_ask rename_space_ask
