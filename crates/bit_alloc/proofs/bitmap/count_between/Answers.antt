@@ -1,5 +1,6 @@
 use Rattle.std.proofs.Common.{◌≡◌, ◌+◌, ◌*◌, ◌≤◌, ℕ, ap, sym, ◌∙◌, arith}
 use Rattle.std.specs.Prelude.{List}
+use Rattle.std.proofs.lemmas.Result.{IfOk-from_err}
 use Rattle.fs_layout.specs.Bytes.{SectorMap}
 use Rattle.bit_alloc.specs.Bits.{clear_below}
 use Rattle.bit_alloc.specs.Bitmaps.{first_sector}
@@ -72,3 +73,15 @@ returns-then-free-enough-clause-cause g c = no_fault c.loop-k.invariant.same.sto
 
 pub returns-clause-cause : goal.returns-clause-cause
 returns-clause-cause g c = no_fault c.loop-k.invariant.same.store
+
+pub returns-in_err-get-clause-some : goal.returns-in_err-get-clause-some
+returns-in_err-get-clause-some g c = IfOk-from_err c.from_residual.result _ c.from_residual.ensures.0
+
+pub returns-in_err-get-clause-all : goal.returns-in_err-get-clause-all
+returns-in_err-get-clause-all g c = IfOk-from_err c.from_residual.result _ c.from_residual.ensures.0
+
+pub returns-then-free-enough-clause-same : goal.returns-then-free-enough-clause-same
+returns-then-free-enough-clause-same g c = c.loop-k.invariant.same
+
+pub returns-clause-same : goal.returns-clause-same
+returns-clause-same g c = c.loop-k.invariant.same

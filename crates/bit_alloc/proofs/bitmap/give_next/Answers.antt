@@ -1,5 +1,6 @@
-use Rattle.std.proofs.Common.{◌≡◌, ◌+◌, ◌/◌, ◌<◌, ℕ, List, get_or, refl, sym, ap, subst, ◌∙◌, arith, inl, inr}
+use Rattle.std.proofs.Common.{◌≡◌, ◌+◌, ◌/◌, ℕ, List, get_or, refl, sym, ap, subst, ◌∙◌, arith, inl, inr}
 use Rattle.std.proofs.lemmas.Bool.{cases_lt}
+use Rattle.std.proofs.lemmas.Result.{IfOk-from_err}
 use Rattle.fs_layout.specs.Bytes.{SectorMap}
 use Rattle.fs_layout.specs.InodeChanges.{Puts}
 use Rattle.sector_txn.specs.Sectors.{IsPut}
@@ -14,20 +15,23 @@ use Rattle.bit_alloc.proofs.bitmap.give_next.Goals as goal
 
 pub get-requires-clause-on_disk : goal.get-requires-clause-on_disk
 get-requires-clause-on_disk g c =
-    let is = first_kept c.args.geometry c.args.map c.requires.numbers c.requires.within c.if-numbers-from-eq0.false in
+    let is = first_kept c.args.geometry c.args.map c.requires.numbers c.requires.within
+    c.if-numbers-from-eq0.false in
     let low = in_disk c.args.map _ c.requires.bitmaps is.1 in
     omega (arith, low, c.first.ensures)
 
 pub put-requires-clause-on_disk : goal.put-requires-clause-on_disk
 put-requires-clause-on_disk g c =
-    let is = first_kept c.args.geometry c.args.map c.requires.numbers c.requires.within c.if-numbers-from-eq0.false in
+    let is = first_kept c.args.geometry c.args.map c.requires.numbers c.requires.within
+    c.if-numbers-from-eq0.false in
     let low = in_disk c.args.map _ c.requires.bitmaps is.1 in
     omega (arith, low, c.first-2.ensures, c.in_ok-get.ensures.same.store.reads.narrowed.size)
 
 pub put-requires-clause-room : goal.put-requires-clause-room
 put-requires-clause-room g c = λ none.
     let n : ℕ = get_or c.args.numbers.now c.args.from 0 in
-    let is = first_kept c.args.geometry c.args.map c.requires.numbers c.requires.within c.if-numbers-from-eq0.false in
+    let is = first_kept c.args.geometry c.args.map c.requires.numbers c.requires.within
+    c.if-numbers-from-eq0.false in
     let mid = g.S.Sectors.state c.get.new.self in
     room_to_mark c.args.geometry c.args.map n mid c.requires.bitmaps.geometry is.1
     (spare_unchanged c.args.geometry 0 (g.S.Sectors.state c.args.s.now) mid c.requires.room c.in_ok-get.ensures.same)
@@ -39,7 +43,8 @@ returns-clause-given g c =
     let map = c.args.map in
     let numbers : List ℕ = c.args.numbers.now in
     let n : ℕ = get_or numbers c.args.from 0 in
-    let is = first_kept c.args.geometry c.args.map c.requires.numbers c.requires.within c.if-numbers-from-eq0.false in
+    let is = first_kept c.args.geometry c.args.map c.requires.numbers c.requires.within
+    c.if-numbers-from-eq0.false in
     let old = g.S.Sectors.state c.args.s.now in
     let mid = g.S.Sectors.state c.get.new.self in
     let new = g.S.Sectors.state c.put.new.self in
@@ -52,21 +57,31 @@ returns-clause-given g c =
     subst (λ (image : SectorMap). GivesNumbers p map (IsNumberOf numbers c.args.from c.clear_listed-end.result) image new.sectors) (sym same)
     (gives_listed has.geometry has.tables (in_map p map n has.geometry is.1) here c.clear_listed-end.ensures.whole put c.clear_listed-end.ensures.cleared)
 
-pub returns-clause-puts : goal.returns-clause-puts
-returns-clause-puts g c =
+-- the first of them has its bit in this sector
+pub returns-clause-more : goal.returns-clause-more
+returns-clause-more g c =
     let numbers : List ℕ = c.args.numbers.now in
     let from : ℕ = c.args.from in
     let end : ℕ = c.clear_listed-end.result in
-    let n : ℕ = get_or numbers from 0 in
-    let is = first_kept c.args.geometry c.args.map c.requires.numbers c.requires.within c.if-numbers-from-eq0.false in
-    let within = c.clear_listed-end.ensures.within in
-    let low = within.0 in
-    let more : from < end = elim (cases_lt from end) [
+    let low = c.clear_listed-end.ensures.within.0 in
+    elim (cases_lt from end) [
       | inl lt ↦ lt
       | inr ge ↦
           let same : end ≡ from = omega (arith, ge, low) in
           absurd ((c.clear_listed-end.ensures.rest (omega (arith, same, c.requires.within))).1 (ap (λ (i : ℕ). get_or numbers i 0 / 4096) same))
-    ] in
+    ]
+
+pub returns-clause-within : goal.returns-clause-within
+returns-clause-within g c = c.clear_listed-end.ensures.within.1
+
+pub returns-clause-puts : goal.returns-clause-puts
+returns-clause-puts g c =
+    let numbers : List ℕ = c.args.numbers.now in
+    let from : ℕ = c.args.from in
+    let n : ℕ = get_or numbers from 0 in
+    let is = first_kept c.args.geometry c.args.map c.requires.numbers c.requires.within
+    c.if-numbers-from-eq0.false in
+    let more = returns-clause-more g c in
     puts_after c.in_ok-get.ensures.same
     (listed_put n c.requires.bitmaps.geometry is.1 (record { place = from; from = omega arith; before = more; is = refl; some = c.if-numbers-from-eq0.false })
     (subst (λ (k : ℕ). IsPut (k + n / 4096) c.clear_listed-end.new.sector (g.S.Sectors.state c.get.new.self) (g.S.Sectors.state c.put.new.self)) c.first-2.ensures c.put.ensures))
@@ -94,3 +109,27 @@ returns-in_err-get-clause-cause g c = fault_on {old = g.S.Sectors.state c.args.s
 
 pub returns-clause-cause : goal.returns-clause-cause
 returns-clause-cause g c = no_fault (returns-clause-puts g c).store
+
+pub returns-in_err-get-clause-more : goal.returns-in_err-get-clause-more
+returns-in_err-get-clause-more g c = IfOk-from_err c.from_residual.result _ c.from_residual.ensures.0
+
+pub returns-in_err-get-clause-within : goal.returns-in_err-get-clause-within
+returns-in_err-get-clause-within g c = IfOk-from_err c.from_residual.result _ c.from_residual.ensures.0
+
+pub returns-in_err-get-clause-given : goal.returns-in_err-get-clause-given
+returns-in_err-get-clause-given g c = IfOk-from_err c.from_residual.result _ c.from_residual.ensures.0
+
+pub returns-in_err-get-clause-puts : goal.returns-in_err-get-clause-puts
+returns-in_err-get-clause-puts g c = IfOk-from_err c.from_residual.result _ c.from_residual.ensures.0
+
+pub returns-in_err-get-clause-bitmaps : goal.returns-in_err-get-clause-bitmaps
+returns-in_err-get-clause-bitmaps g c = IfOk-from_err c.from_residual.result _ c.from_residual.ensures.0
+
+pub returns-then-numbers-from-eq0-clause-more : goal.returns-then-numbers-from-eq0-clause-more
+returns-then-numbers-from-eq0-clause-more g c = omega arith
+
+pub returns-then-numbers-from-eq0-clause-within : goal.returns-then-numbers-from-eq0-clause-within
+returns-then-numbers-from-eq0-clause-within g c = omega (arith, c.requires.within)
+
+pub returns-then-numbers-from-eq0-clause-bitmaps : goal.returns-then-numbers-from-eq0-clause-bitmaps
+returns-then-numbers-from-eq0-clause-bitmaps g c = c.requires.bitmaps

@@ -1,4 +1,7 @@
-use Rattle.std.proofs.Common.{◌≡◌, ◌<◌, ◌∙◌, refl, arith, ℕ, get_or}
+use Rattle.std.proofs.Common.{◌≡◌, ◌<◌, ◌∙◌, refl, subst, arith, ℕ, List, length, get_or}
+use Rattle.std.proofs.lemmas.Result.{IfOk-from_err}
+use Rattle.sector_txn.specs.Sectors.{PutsOnly}
+use Rattle.bit_alloc.specs.Bitmaps.{IsNumberOf, IsSectorOf, TakesNumbers}
 use Rattle.sector_txn.proofs.TransactionRuns.{changes_nothing, store_joined}
 use Rattle.bit_alloc.specs.Room.{bitmaps}
 use Rattle.bit_alloc.proofs.Listed.{listed_puts}
@@ -52,3 +55,54 @@ returns-clause-store g c = c.loop-at.invariant.puts.store
 
 pub returns-clause-cause : goal.returns-clause-cause
 returns-clause-cause g c = no_fault_of c.loop-at.invariant.puts.store
+
+pub take_next-requires-clause-bitmaps : goal.take_next-requires-clause-bitmaps
+take_next-requires-clause-bitmaps g c = c.loop-at.invariant.bitmaps
+
+pub loop-at-smaller : goal.loop-at-smaller
+loop-at-smaller g c =
+    omega (arith, c.take_next.ensures.len, c.in_ok-at.ensures.more, c.in_ok-at.ensures.within)
+
+pub returns-in_err-at-clause-len : goal.returns-in_err-at-clause-len
+returns-in_err-at-clause-len g c = c.take_next.ensures.len ∙ c.loop-at.invariant.len
+
+pub returns-in_err-at-clause-taken : goal.returns-in_err-at-clause-taken
+returns-in_err-at-clause-taken g c =
+    IfOk-from_err c.from_residual.result _ c.from_residual.ensures.0
+
+pub returns-in_err-at-clause-puts : goal.returns-in_err-at-clause-puts
+returns-in_err-at-clause-puts g c =
+    IfOk-from_err c.from_residual.result _ c.from_residual.ensures.0
+
+pub returns-in_err-at-clause-bitmaps : goal.returns-in_err-at-clause-bitmaps
+returns-in_err-at-clause-bitmaps g c =
+    IfOk-from_err c.from_residual.result _ c.from_residual.ensures.0
+
+pub returns-clause-len : goal.returns-clause-len
+returns-clause-len g c = c.loop-at.invariant.len
+
+-- the loop ends behind the last place
+pub returns-clause-taken : goal.returns-clause-taken
+returns-clause-taken g c =
+    let old = (g.S.Sectors.state c.args.s.now).sectors in
+    let new = (g.S.Sectors.state c.loop-at.s).sectors in
+    let numbers : List ℕ = c.loop-at.numbers in
+    let end : c.loop-at.at ≡ length numbers = omega
+    (arith, c.loop-at.invariant.within, c.loop-at-test.false) in
+    subst (λ (n : ℕ). TakesNumbers c.args.geometry c.args.map numbers 0 n old new) end
+    c.loop-at.invariant.taken
+
+pub returns-clause-puts : goal.returns-clause-puts
+returns-clause-puts g c =
+    let old = g.S.Sectors.state c.args.s.now in
+    let new = g.S.Sectors.state c.loop-at.s in
+    let numbers : List ℕ = c.loop-at.numbers in
+    let end : c.loop-at.at ≡ length numbers = omega
+    (arith, c.loop-at.invariant.within, c.loop-at-test.false) in
+    subst
+    (λ (n : ℕ). PutsOnly (IsSectorOf c.args.geometry c.args.map (IsNumberOf numbers 0 n))
+    (bitmaps c.args.geometry) 0 old new)
+    end c.loop-at.invariant.puts
+
+pub returns-clause-bitmaps : goal.returns-clause-bitmaps
+returns-clause-bitmaps g c = c.loop-at.invariant.bitmaps
