@@ -93,26 +93,3 @@ module _ (user : ℕ) (es : List Entry) (i : ℕ) (d : Entry) (found : Option Pe
       → (tagged && same) ≡ false → user_in user (drop (i + 1) es) ≡ found
   user_passed tagged same a b none = user_test false
       (ap (λ t. t && (get_or es i d).id == user) a ∙ ap (λ t. tagged && t) b ∙ none)
-
-module _ (cred : Credential) (owning_group : ℕ) (want : Perms) (es : List Entry) (i : ℕ) (d : Entry)
-    (found : Option Rule) (below : i < length es)
-    (so_far : group_in cred owning_group want (drop i es) ≡ found) where
-  abbrev rule_here : Option Rule
-  rule_here = group_rule cred owning_group (get_or es i d)
-
-  group_test : (passes : Bool) → (is_some rule_here && holds (get_or es i d).perms want) ≡ passes
-      → cond passes rule_here (group_in cred owning_group want (drop (i + 1) es)) ≡ found
-  group_test passes is =
-      ap (λ t. cond t rule_here (group_in cred owning_group want (drop (i + 1) es))) (sym is)
-      ∙ sym (at_drop_more (group_in cred owning_group want) es i d below) ∙ so_far
-
-  pub group_here : is_some (group_rule cred owning_group (get_or es i d)) ≡ true
-      → holds (get_or es i d).perms want ≡ true
-      → group_rule cred owning_group (get_or es i d) ≡ found
-  group_here some held = group_test true (ap (λ t. t && holds (get_or es i d).perms want) some ∙ held)
-
-  pub group_passed : (some held : Bool) → is_some (group_rule cred owning_group (get_or es i d)) ≡ some
-      → holds (get_or es i d).perms want ≡ held
-      → (some && held) ≡ false → group_in cred owning_group want (drop (i + 1) es) ≡ found
-  group_passed some held a b none = group_test false
-      (ap (λ t. t && holds (get_or es i d).perms want) a ∙ ap (λ t. some && t) b ∙ none)
