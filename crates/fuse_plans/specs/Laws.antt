@@ -2,7 +2,7 @@
 --     handle_in, rights_of        for whom a request is performed, and on what
 --     RequestsBehave        no request is performed with more than the rights of who asks, or on anything but what it is about;
 --             and nobody is left away from the root
---     BeginningBehaves        the first request begins the server's own process, and asks no more
+--     BeginningBehaves        the first request asks no more than a process of user 0 may
 --     RunsBehave        the same of what was asked
 --     RequestsChangeWhatTheySay, RunsChangeWhatRequestsSay        what changes of names and attributes comes of a request that says so
 --     OthersChangeNothing, OthersKeepTimes        requests that say no change

@@ -10,8 +10,8 @@ ghost use Rattle.fuse_plans.specs.Laws.{BeginningBehaves, FailuresChangeNothing,
 ///
 /// Each call is made by a process whose credential is that of who asks, through the handle that the request gives, or by the
 /// server's own process, which only looks; or it is fstat(2) of something open, which is shown to all. A process that has
-/// entered a directory makes one call there, and is told to come back before anything else. Nothing is asked of the disk, and
-/// no process changes its directory by a call.
+/// entered a directory makes its calls there, and is told to come back before anything else is asked. Nothing is asked of the
+/// disk, and no process changes its directory by a call.
 ///
 /// Each call acts on what the request is about, as the server knew it when the request began: on a name that the request gives, in
 /// the directory of its node, where that is the root or has a name; on the name by which the server knew the object of the node; or
@@ -21,7 +21,7 @@ pub fn requests_behave()
     ensures { RequestsBehave }
 {}
 
-/// The first request begins the server's own process, and asks no more.
+/// The first request asks no more than a process of user 0 may ask about what the request is about.
 pub fn beginning_behaves()
     ensures { BeginningBehaves }
 {}
