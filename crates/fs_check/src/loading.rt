@@ -2,7 +2,7 @@
 //!
 //! Nothing trusts that these are all: a sector that is missed is one that the check can't read.
 
-ghost use Rattle.std.specs.Prelude.{◌+◌, ◌≤◌};
+ghost use Rattle.std.specs.Prelude.{◌≡◌, ◌+◌, ◌≤◌};
 ghost use Rattle.fs_layout.specs.declared.inode.TheConstants.{POINTER_LEVELS};
 ghost use Rattle.fs_layout.specs.declared.header.TheConstants.{MAX_HEADER};
 
@@ -28,18 +28,18 @@ struct Log {
     ghost few: { header ≤ MAX_HEADER },
 }
 
-/// Loads what a check reads of a file, as far as its superblock, its commit and its inodes tell where that is.
-pub fn load<F: DiskFile + Drop>(
-    alloc: Global,
-    part: PartFile<F>,
-) -> Result<PartFile<F>, FileFault> {
-    let part = part.load(0, COMMIT_SECTOR + 1)?;
-    let Some(geometry) = read_geometry(&part) else {
-        return Ok(part);
+/// Loads what a check reads of a file, as far as its superblock, its commit and its inodes tell where that is. Nothing is written, also
+/// where this fails.
+pub fn load<F: DiskFile + Drop>(alloc: Global, part: &mut PartFile<F>) -> Result<(), FileFault>
+    ensures same { F.held part.new.file ≡ F.held part.old.file }
+{
+    part.load(0, COMMIT_SECTOR + 1)?;
+    let Some(geometry) = read_geometry(part) else {
+        return Ok(());
     };
     let count = geometry.first_data.saturating_sub(geometry.inode_bitmap);
-    let part = part.load(geometry.inode_bitmap, count)?;
-    let (part, log) = load_log(part, geometry.header.min(MAX_HEADER))?;
+    part.load(geometry.inode_bitmap, count)?;
+    let log = load_log(part, geometry.header.min(MAX_HEADER))?;
     load_used(alloc, part, &log, geometry)
 }
 
@@ -48,11 +48,9 @@ fn read_geometry<F: DiskFile + Drop>(part: &PartFile<F>) -> Option<Geometry> {
 }
 
 // The log as far as the commit uses it.
-fn load_log<F: DiskFile + Drop>(
-    part: PartFile<F>,
-    header: u32,
-) -> Result<(PartFile<F>, Log), FileFault>
+fn load_log<F: DiskFile + Drop>(part: &mut PartFile<F>, header: u32) -> Result<Log, FileFault>
     requires { header ≤ MAX_HEADER }
+    ensures { F.held part.new.file ≡ F.held part.old.file }
 {
     let content = *part.get(COMMIT_SECTOR).unwrap_or(&ZEROS);
     let area = Commit::area_in(&content);
@@ -62,14 +60,13 @@ fn load_log<F: DiskFile + Drop>(
         0 => 0,
         count => header.saturating_add(count),
     };
-    let part = part.load(start, count)?;
-    let commit = read_targets(&part, start, commit);
-    let log = Log {
+    part.load(start, count)?;
+    let commit = read_targets(part, start, commit);
+    Ok(Log {
         header,
         area,
         commit,
-    };
-    Ok((part, log))
+    })
 }
 
 // Those targets too that stand in the header, which begins at this sector.
@@ -108,28 +105,32 @@ fn is_short_file(inode: &Inode) -> bool {
 // What inodes that are in use name and hold.
 fn load_used<F: DiskFile + Drop>(
     alloc: Global,
-    part: PartFile<F>,
+    part: &mut PartFile<F>,
     log: &Log,
     geometry: Geometry,
-) -> Result<PartFile<F>, FileFault> {
+) -> Result<(), FileFault>
+    ensures { F.held part.new.file ≡ F.held part.old.file }
+{
     let mut used = Used {
         tails: Vec::new(alloc),
         inodes: Vec::new(alloc),
     };
-    want_used(&mut used, &part, log, geometry)?;
+    want_used(&mut used, part, log, geometry)?;
     load_wanted(alloc, part, log, &mut used)
 }
 
 // What these inodes name and hold.
 fn load_wanted<F: DiskFile + Drop>(
     alloc: Global,
-    part: PartFile<F>,
+    part: &mut PartFile<F>,
     log: &Log,
     used: &mut Used,
-) -> Result<PartFile<F>, FileFault> {
-    let part = load_named(alloc, part, &used.inodes)?;
-    let part = load_pointers(alloc, part, log, &used.inodes)?;
-    want_blocks(&mut used.tails, &part, log, &used.inodes)?;
+) -> Result<(), FileFault>
+    ensures { F.held part.new.file ≡ F.held part.old.file }
+{
+    load_named(alloc, part, &used.inodes)?;
+    load_pointers(alloc, part, log, &used.inodes)?;
+    want_blocks(&mut used.tails, part, log, &used.inodes)?;
     part.load_tails(&used.tails)
 }
 
@@ -181,9 +182,11 @@ fn want(numbers: &mut Vec<u32>, s: u32) -> Result<(), AllocError> {
 // The sectors of ACLs and of pointers that inodes name.
 fn load_named<F: DiskFile + Drop>(
     alloc: Global,
-    part: PartFile<F>,
+    part: &mut PartFile<F>,
     inodes: &[Inode],
-) -> Result<PartFile<F>, FileFault> {
+) -> Result<(), FileFault>
+    ensures { F.held part.new.file ≡ F.held part.old.file }
+{
     let mut numbers = Vec::new(alloc);
     want_named(&mut numbers, inodes)?;
     part.load_each(&numbers)
@@ -204,31 +207,33 @@ fn want_named(numbers: &mut Vec<u32>, inodes: &[Inode]) -> Result<(), AllocError
 // The sectors of pointers that others list, from the top.
 fn load_pointers<F: DiskFile + Drop>(
     alloc: Global,
-    part: PartFile<F>,
+    part: &mut PartFile<F>,
     log: &Log,
     inodes: &[Inode],
-) -> Result<PartFile<F>, FileFault> {
-    let mut part = part;
+) -> Result<(), FileFault>
+    ensures { F.held part.new.file ≡ F.held part.old.file }
+{
     let mut level = POINTER_LEVELS;
     while level > 1 {
-        part = load_listed(alloc, part, log, inodes, level)?;
+        load_listed(alloc, part, log, inodes, level)?;
         level -= 1;
     }
-    Ok(part)
+    Ok(())
 }
 
 fn load_listed<F: DiskFile + Drop>(
     alloc: Global,
-    part: PartFile<F>,
+    part: &mut PartFile<F>,
     log: &Log,
     inodes: &[Inode],
     level: usize,
-) -> Result<PartFile<F>, FileFault>
+) -> Result<(), FileFault>
     requires lowest { 1 ≤ level }
     requires highest { level ≤ POINTER_LEVELS }
+    ensures { F.held part.new.file ≡ F.held part.old.file }
 {
     let mut numbers = Vec::new(alloc);
-    want_listed(&mut numbers, &part, log, inodes, level)?;
+    want_listed(&mut numbers, part, log, inodes, level)?;
     part.load_each(&numbers)
 }
 

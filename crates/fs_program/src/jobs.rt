@@ -267,12 +267,12 @@ fn check_part<R: Files<File: DiskFile> + AllocGlobal>(
     ensures { MatchResult result (λ found. IfSome found.0 (HasChecked ⟦<PartDisk<R::File> as Disk>⟧.state (R.File.held found.1)))
         (λ failure. failure ≡ Failure.NotOpened) }
 {
-    let Ok(part) = PartFile::open(rt, rt.alloc(), image.as_str()) else {
+    let Ok(mut part) = PartFile::open(rt, rt.alloc(), image.as_str()) else {
         return Err(Failure::NotOpened);
     };
-    let Ok(part) = load(rt.alloc(), part) else {
+    if load(rt.alloc(), &mut part).is_err() {
         return Err(Failure::NotOpened);
-    };
+    }
     let mut disk = PartDisk::new(part);
     let found = check(rt.alloc(), &mut disk);
     if disk.failures() == 0 {

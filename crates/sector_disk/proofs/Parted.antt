@@ -2,11 +2,10 @@
 use Rattle.std.proofs.Common.{◌≡◌, ◌≢◌, inl, inr, ℕ, ◌+◌, ◌-◌, ◌<◌, ◌≤◌, List, [], ◌∷◌, length, take, refl, sym, ◌∙◌, ap, subst, arith, get_or, replicate}
 use Rattle.std.specs.Prelude.{Option, Some, None, IfSome, slice_set}
 use Rattle.std.proofs.lemmas.Bool.{cases_lt, cases_eq}
-use Rattle.std.proofs.lemmas.List.{get_or_past, get_or-set_same, get_or-set_other, get_or-take, get_or-replicate, length-replicate, length-take}
+use Rattle.std.proofs.lemmas.List.{get_or_past, get_or-set_same, get_or-set_other, get_or-take, get_or-replicate, length-replicate, length-set, length-take}
 use Rattle.sector_disk.specs.Disk.{Image, sector, IsWholeSector, EndsInZeros, IsFresh}
 use Rattle.sector_disk.specs.Record.{Held}
-use Rattle.sector_disk.specs.Files.{file_seen, HasFirst, HasRun, HasRunMarked}
-use Rattle.sector_disk.specs.Places.{IsRunSet}
+use Rattle.sector_disk.specs.Files.{file_seen, HasFirst, HasRun}
 use Rattle.sector_disk.specs.Parts.{IsImageOf, file_image, IsPart, AreZerosElse, HasEnds, part_state}
 use Rattle.sector_disk.specs.Whole.{AreSectors}
 
@@ -36,29 +35,31 @@ part_first count (Some held) memory loaded none len whole has = record {
   same = λ n here. absurd (here (none_loaded count loaded none n));
 }
 
-run_part : (first : ℕ) (run old new : Image) (was is : List ℕ) (file : Option Held) → first + length run ≤ length old
-    → IsRunSet first run old new → HasRunMarked first (length run) was is → IfSome file (HasRun first run) → AreSectors new
+-- a sector more
+pub part_set : (n : ℕ) (content : List ℕ) (old new : Image) (was is : List ℕ) (file : Option Held) → n < length old
+    → new ≡ slice_set old n content → is ≡ slice_set was n 1 → IfSome file (HasRun n (content ∷ [])) → AreSectors new
     → IsPart file old was → IsPart file new is
-run_part first run old new was is None fits set marked has whole part = record { size = refl; whole = whole; same = λ n here. refl }
-run_part first run old new was is (Some held) fits set marked has whole part = record { size = part.size ∙ sym set.len; whole = part.whole; same = each }
+part_set n content old new was is None below set marked has whole part = record { size = refl; whole = whole; same = λ k here. refl }
+part_set n content old new was is (Some held) below set marked has whole part = record {
+  size = part.size ∙ sym (ap (λ (i : Image). length i) set ∙ length-set old n content);
+  whole = part.whole;
+  same = each;
+}
   where
-    each : (n : ℕ) → get_or is n 0 ≢ 0 → sector new n ≡ sector (take 16777217 (file_seen held)) n
-    each n here = elim (cases_lt n first) [
-      | inl before ↦ set.before n before ∙ part.same n (subst (λ (k : ℕ). k ≢ 0) (marked.others n (inl before)) here)
-      | inr from ↦ elim (cases_lt n (first + length run)) [
-        | inl inside ↦
-            let size = part.size in let len = length-take 16777217 (file_seen held) in
-            set.inside n from inside ∙ sym (has n from inside) ∙ sym (get_or-take 16777217 (file_seen held) n [] (omega (arith, inside, fits, size, len)))
-        | inr behind ↦ set.behind n behind ∙ part.same n (subst (λ (k : ℕ). k ≢ 0) (marked.others n (inr behind)) here)
-      ]
+    each : (k : ℕ) → get_or is k 0 ≢ 0 → sector new k ≡ sector (take 16777217 (file_seen held)) k
+    each k here = elim (cases_eq k n) [
+      | inl at ↦
+          let size = part.size in
+          let len = length-take 16777217 (file_seen held) in
+          let start : n - n ≡ 0 = omega arith in
+          ap (sector new) at ∙ ap (λ (i : Image). sector i n) set ∙ get_or-set_same old n content [] below
+          ∙ sym (has n (omega arith) (omega arith) ∙ ap (sector (content ∷ [])) start)
+          ∙ sym (get_or-take 16777217 (file_seen held) n [] (omega (arith, below, size, len)))
+          ∙ sym (ap (sector (take 16777217 (file_seen held))) at)
+      | inr other ↦
+          let same : get_or is k 0 ≡ get_or was k 0 = ap (λ (l : List ℕ). get_or l k 0) marked ∙ get_or-set_other was n k 1 0 other in
+          ap (λ (i : Image). sector i k) set ∙ get_or-set_other old n k content [] other ∙ part.same k (λ none. here (same ∙ none))
     ]
-
--- a run more
-pub part_loaded : (first : ℕ) (run old new : Image) (was is : List ℕ) (before file : Option Held) → file ≡ before → first + length run ≤ length old
-    → IsRunSet first run old new → HasRunMarked first (length run) was is → IfSome file (HasRun first run) → AreSectors new
-    → IsPart before old was → IsPart file new is
-part_loaded first run old new was is before file same fits set marked has whole part =
-    run_part first run old new was is file fits set marked has whole (subst (λ (f : Option Held). IsPart f old was) (sym same) part)
 
 -- ---- what is known of those that aren't in memory
 pub zeros_first : (count : ℕ) (memory : Image) (loaded : List ℕ) → memory ≡ replicate count (replicate 512 0) → AreZerosElse memory loaded
@@ -66,14 +67,17 @@ zeros_first count memory loaded is = λ n below none.
     let len = ap (λ (i : Image). length i) is ∙ length-replicate count (replicate 512 0) in
     ap (λ (i : Image). sector i n) is ∙ get_or-replicate count n (replicate 512 0) [] (omega (arith, below, len))
 
-pub zeros_else : (first : ℕ) (run old new : Image) (was is : List ℕ) → IsRunSet first run old new → HasRunMarked first (length run) was is
-    → AreZerosElse old was → AreZerosElse new is
-zeros_else first run old new was is set marked zero n below none = elim (cases_lt n first) [
-  | inl before ↦ set.before n before ∙ zero n (let len = set.len in omega (arith, below, len)) (sym (marked.others n (inl before)) ∙ none)
-  | inr from ↦ elim (cases_lt n (first + length run)) [
-    | inl inside ↦ absurd (let one = marked.marked n from inside in omega (arith, one, none))
-    | inr behind ↦ set.behind n behind ∙ zero n (let len = set.len in omega (arith, below, len)) (sym (marked.others n (inr behind)) ∙ none)
-  ]
+pub zeros_set : (n : ℕ) (content : List ℕ) (old new : Image) (was is : List ℕ) → n < length was → length was ≡ length old
+    → new ≡ slice_set old n content → is ≡ slice_set was n 1 → AreZerosElse old was → AreZerosElse new is
+zeros_set n content old new was is below table set marked zero k within none = elim (cases_eq k n) [
+  | inl at ↦
+      let one : get_or is k 0 ≡ 1 = ap (λ j. get_or is j 0) at ∙ ap (λ (l : List ℕ). get_or l n 0) marked ∙ get_or-set_same was n 1 0 below in
+      absurd (omega (arith, one, none))
+  | inr other ↦
+      let same : get_or is k 0 ≡ get_or was k 0 = ap (λ (l : List ℕ). get_or l k 0) marked ∙ get_or-set_other was n k 1 0 other in
+      let len = ap (λ (i : Image). length i) set ∙ length-set old n content in
+      ap (λ (i : Image). sector i k) set ∙ get_or-set_other old n k content [] other
+      ∙ zero k (omega (arith, within, len)) (sym same ∙ none)
 ]
 
 -- ---- the ends of sectors

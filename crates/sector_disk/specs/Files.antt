@@ -5,10 +5,9 @@
 --     IsHeldNarrowed, IsHeldSynced        a sync
 --     HasSectors, HasStable        what is read from it; what it has at first
 --     HasCount, HasFirst        how many sectors it has
---     HasRunMarked        which sectors are in memory
 --     Lacks, KeepsFile, KeepsKnown        how it follows the disk
 --     KeepsBefore, FollowsBefore        how its first sectors do
-use Rattle.std.specs.Prelude.{◌≡◌, ◌⊎◌, ℕ, ◌+◌, ◌-◌, ◌<◌, ◌≤◌, Bool, true, List, length, get_or, min, Option, Some, None, IfSome, Contains}
+use Rattle.std.specs.Prelude.{◌≡◌, ◌⊎◌, ℕ, ◌+◌, ◌-◌, ◌<◌, ◌≤◌, Bool, true, List, length, min, Option, Some, None, IfSome, Contains}
 use Rattle.sector_disk.specs.Disk.{DiskState, Image, sector}
 use Rattle.sector_disk.specs.Record.{Held, after_events, MayHold}
 use Rattle.sector_disk.specs.Whole.{AreSectors}
@@ -68,12 +67,6 @@ pub record HasCount (count : ℕ) (held : Held) : Type 0 where
 pub record HasFirst (most count : ℕ) (held : Held) : Type 0 where
   pub len : min most (length (file_seen held)) ≡ count
   pub whole : AreSectors (file_seen held)
-
--- so many from `first` on are in memory now, and of the others those that were
-pub record HasRunMarked (first count : ℕ) (old new : List ℕ) : Type 0 where
-  pub len : length new ≡ length old
-  pub marked : (n : ℕ) → first ≤ n → n < first + count → get_or new n 0 ≡ 1
-  pub others : (n : ℕ) → (n < first) ⊎ (first + count ≤ n) → get_or new n 0 ≡ get_or old n 0
 
 -- the file may lack what reads of the disk give in this sector: it's among those that wait, or all are
 abbrev pub Lacks : List ℕ → Bool → ℕ → Type 0

@@ -1,7 +1,7 @@
 //! A file of which some sectors are read into memory.
 
-ghost use Rattle.std.specs.Prelude.{◌≡◌, ◌≢◌, ◌<◌, ◌≤◌, ◌+◌, ◌^◌, ◌∷◌, [], ℕ, get_or, length, replicate, IfOk, IfSome, IsTrue, OnOk};
-ghost use Rattle.sector_disk.specs.Files.{HasRun, HasRunMarked};
+ghost use Rattle.std.specs.Prelude.{◌≡◌, ◌≢◌, ◌<◌, ◌≤◌, ◌+◌, ◌^◌, ◌∷◌, [], ℕ, get_or, length, replicate, slice_set, IfOk, IfSome, IsTrue, OnOk, OnErr};
+ghost use Rattle.sector_disk.specs.Files.{HasRun};
 ghost use Rattle.sector_disk.specs.Parts.{file_image, IsPart, AreZerosElse, HasEnds};
 ghost use Rattle.sector_disk.specs.Disk.{sector, EndsInZeros};
 
@@ -12,7 +12,6 @@ use crate::{DiskFile, FileFault};
 use std::alloc::{AllocError, Global};
 use std::path::AsPath;
 use std::rt::Files;
-use std::slice::from_ref;
 
 const ZEROS: [u8; 512] = [0; 512];
 
@@ -62,7 +61,15 @@ impl<F: DiskFile + Drop> PartFile<F> {
         ensures none { IfOk result (λ part. (n : ℕ) → get_or part.loaded n 0 ≡ 0) }
         ensures small { IfOk result (λ part. length part.sectors.shown ≤ 16777217) }
     {
-        let mut file = open_file(rt, path)?;
+        PartFile::over(alloc, open_file(rt, path)?)
+    }
+
+    /// A file that is open, for a file of one's own kind: as [`PartFile::open`] has it.
+    pub fn over(alloc: Global, file: F) -> Result<Self, FileFault>
+        ensures none { IfOk result (λ part. (n : ℕ) → get_or part.loaded n 0 ≡ 0) }
+        ensures small { IfOk result (λ part. length part.sectors.shown ≤ 16777217) }
+    {
+        let mut file = file;
         let Ok(count) = lock_and_count(&mut file) else {
             return Err(FileFault::Failed);
         };
@@ -109,134 +116,103 @@ impl<F: DiskFile + Drop> PartFile<F> {
     }
 
     // Reads neighbours, as many as the buffer has room for.
-    fn load_piece(self, first: u32, len: usize) -> Result<Self, FileFault>
-        requires fits { first + len ≤ length self.sectors.shown }
-        requires room { len ≤ length self.buffer.items }
-        ensures count { IfOk result (λ part. length part.sectors.shown ≡ length self.sectors.shown) }
-        ensures buffer { IfOk result (λ part. length part.buffer.items ≡ length self.buffer.items) }
-        ensures file { IfOk result (λ part. F.held part.file ≡ F.held self.file) }
+    fn load_piece(&mut self, first: u32, len: usize) -> Result<(), FileFault>
+        requires fits { first + len ≤ length self.old.sectors.shown }
+        requires room { len ≤ length self.old.buffer.items }
+        ensures count { length self.new.sectors.shown ≡ length self.old.sectors.shown }
+        ensures buffer { length self.new.buffer.items ≡ length self.old.buffer.items }
+        ensures same { F.held self.new.file ≡ F.held self.old.file }
     {
-        let PartFile {
-            mut file,
-            mut sectors,
-            mut loaded,
-            ends,
-            mut buffer,
-        } = self;
         load_run(
-            &mut file,
-            &mut sectors,
-            &mut loaded,
-            &mut buffer,
+            &mut self.file,
+            &mut self.sectors,
+            &mut self.loaded,
+            &mut self.buffer,
             first,
             len,
-        )?;
-        Ok(PartFile {
-            file,
-            sectors,
-            loaded,
-            ends,
-            buffer,
-        })
+        )
     }
 
-    /// Reads so many sectors from number `first` on; what of them lies behind the end of the file is left out.
-    pub fn load(self, first: u32, count: u32) -> Result<Self, FileFault>
-        ensures count { IfOk result (λ part. length part.sectors.shown ≡ length self.sectors.shown) }
-        ensures file { IfOk result (λ part. F.held part.file ≡ F.held self.file) }
+    /// Reads so many sectors from number `first` on; what of them lies behind the end of the file is left out. Nothing is written.
+    pub fn load(&mut self, first: u32, count: u32) -> Result<(), FileFault>
+        ensures count { length self.new.sectors.shown ≡ length self.old.sectors.shown }
+        ensures same { F.held self.new.file ≡ F.held self.old.file }
     {
         let end = first.saturating_add(count).min(self.count());
-        let mut part = self;
         let mut at = first;
         while at < end {
-            let len = part.buffer.len().min((end - at) as usize);
-            part = part.load_piece(at, len)?;
+            let len = self.buffer.len().min((end - at) as usize);
+            self.load_piece(at, len)?;
             at += len as u32;
         }
-        Ok(part)
+        Ok(())
     }
 
-    /// Reads these sectors, neighbours in one call where they stand in rising order.
-    pub fn load_each(self, numbers: &[u32]) -> Result<Self, FileFault>
-        ensures count { IfOk result (λ part. length part.sectors.shown ≡ length self.sectors.shown) }
-        ensures file { IfOk result (λ part. F.held part.file ≡ F.held self.file) }
+    /// Reads these sectors, neighbours in one call where they stand in rising order. Nothing is written.
+    pub fn load_each(&mut self, numbers: &[u32]) -> Result<(), FileFault>
+        ensures count { length self.new.sectors.shown ≡ length self.old.sectors.shown }
+        ensures same { F.held self.new.file ≡ F.held self.old.file }
     {
-        let mut part = self;
         let mut first = 0;
         let mut end = 0;
         for n in numbers {
             if *n < first || end < *n {
-                part = part.load(first, end.saturating_sub(first))?;
+                self.load(first, end.saturating_sub(first))?;
                 first = *n;
                 end = first;
             }
             end = end.max(n.saturating_add(1));
         }
-        part.load(first, end.saturating_sub(first))
+        self.load(first, end.saturating_sub(first))
     }
 
     // Reads neighbours from number `first` on, as many as the buffer has room for, and keeps of each what is asked for.
-    fn load_ends(self, first: u32, tails: &[Tail]) -> Result<Self, FileFault>
-        requires fits { first + length tails.now ≤ length self.sectors.shown }
-        requires room { length tails.now ≤ length self.buffer.items }
-        ensures count { IfOk result (λ part. length part.sectors.shown ≡ length self.sectors.shown) }
-        ensures file { IfOk result (λ part. F.held part.file ≡ F.held self.file) }
+    fn load_ends(&mut self, first: u32, tails: &[Tail]) -> Result<(), FileFault>
+        requires fits { first + length tails.now ≤ length self.old.sectors.shown }
+        requires room { length tails.now ≤ length self.old.buffer.items }
+        ensures count { length self.new.sectors.shown ≡ length self.old.sectors.shown }
+        ensures same { F.held self.new.file ≡ F.held self.old.file }
     {
-        let PartFile {
-            mut file,
-            mut sectors,
-            mut loaded,
-            mut ends,
-            mut buffer,
-        } = self;
         read_tails(
-            &mut file,
-            &mut sectors,
-            &mut loaded,
-            &mut ends,
-            &mut buffer,
+            &mut self.file,
+            &mut self.sectors,
+            &mut self.loaded,
+            &mut self.ends,
+            &mut self.buffer,
             first,
             tails,
-        )?;
-        Ok(PartFile {
-            file,
-            sectors,
-            loaded,
-            ends,
-            buffer,
-        })
+        )
     }
 
     // Reads the sectors that stand in a row at the beginning, unless they reach past the file's end.
-    fn load_row(self, tails: &[Tail], len: usize) -> Result<Self, FileFault>
+    fn load_row(&mut self, tails: &[Tail], len: usize) -> Result<(), FileFault>
         requires some { 0 < len }
         requires fits { len ≤ length tails.now }
-        requires room { len ≤ length self.buffer.items }
-        ensures count { IfOk result (λ part. length part.sectors.shown ≡ length self.sectors.shown) }
-        ensures file { IfOk result (λ part. F.held part.file ≡ F.held self.file) }
+        requires room { len ≤ length self.old.buffer.items }
+        ensures count { length self.new.sectors.shown ≡ length self.old.sectors.shown }
+        ensures same { F.held self.new.file ≡ F.held self.old.file }
     {
         let first = tails[0].sector;
         let count = self.count();
         if count < first || ((count - first) as usize) < len {
-            return Ok(self);
+            return Ok(());
         }
         self.load_ends(first, &tails[..len])
     }
 
     /// Reads these sectors, neighbours in one call where they stand in rising order. Where not all of one is asked for, and what is are
-    /// zeros, only this is kept of it.
-    pub fn load_tails(self, tails: &[Tail]) -> Result<Self, FileFault>
-        ensures count { IfOk result (λ part. length part.sectors.shown ≡ length self.sectors.shown) }
-        ensures file { IfOk result (λ part. F.held part.file ≡ F.held self.file) }
+    /// zeros, only this is kept of it. Nothing is written.
+    pub fn load_tails(&mut self, tails: &[Tail]) -> Result<(), FileFault>
+        ensures count { length self.new.sectors.shown ≡ length self.old.sectors.shown }
+        ensures same { F.held self.new.file ≡ F.held self.old.file }
     {
-        let mut part = self;
         let mut at = 0;
         while at < tails.len() {
-            let len = row_length(&tails[at..]).min(part.buffer.len());
-            part = part.load_row(&tails[at..], len)?;
+            let len = row_length(&tails[at..]).min(self.buffer.len());
+            self.load_row(&tails[at..], len)?;
             at += len;
         }
-        Ok(part)
+        Ok(())
     }
 
     /// The file.
@@ -265,28 +241,48 @@ fn unread(
     Ok((sectors, loaded, ends, buffer))
 }
 
-// Keeps neighbours in memory that the file has.
-fn keep_run<F: DiskFile>(
+// Gives a sector in memory this content, and says that it is there. At `Err` nothing has changed.
+fn put_loaded(
+    sectors: &mut Sectors,
+    loaded: &mut Numbers,
+    n: u32,
+    content: &[u8; 512],
+) -> Result<(), AllocError>
+    requires below { n < length sectors.old.shown }
+    requires table { length loaded.old ≡ length sectors.old.shown }
+    ensures content { OnOk result (sectors.new.shown ≡ slice_set sectors.old.shown n content.now) }
+    ensures loaded { OnOk result (loaded.new ≡ slice_set loaded.old n 1) }
+    ensures same { OnErr result ((sectors.new.shown ≡ sectors.old.shown) × (loaded.new ≡ loaded.old)) }
+{
+    let was = loaded.get(n as usize);
+    loaded.add(n as usize, 1)?;
+    if let Err(refused) = sectors.set(n, content) {
+        loaded.replace(n as usize, was);
+        return Err(refused);
+    }
+    Ok(())
+}
+
+// Keeps a sector in memory that the file has.
+fn keep_sector<F: DiskFile>(
     _file: &F,
     sectors: &mut Sectors,
     loaded: &mut Numbers,
-    first: u32,
-    piece: &[[u8; 512]],
+    n: u32,
+    content: &[u8; 512],
 ) -> Result<(), FileFault>
-    requires small { length sectors.old.shown < 2 ^ 32 }
-    requires fits { first + length piece.now ≤ length sectors.old.shown }
+    requires below { n < length sectors.old.shown }
     requires table { length loaded.old ≡ length sectors.old.shown }
-    requires has { IfSome (F.held _file.now) (HasRun first piece.now) }
+    requires has { IfSome (F.held _file.now) (HasRun n (content.now ∷ [])) }
     requires follows { IsPart (F.held _file.now) sectors.old.shown loaded.old }
     requires unread { AreZerosElse sectors.old.shown loaded.old }
-    ensures count { OnOk result (length sectors.new.shown ≡ length sectors.old.shown) }
-    ensures table { OnOk result (length loaded.new ≡ length sectors.new.shown) }
-    ensures follows { OnOk result (IsPart (F.held _file.now) sectors.new.shown loaded.new) }
-    ensures unread { OnOk result (AreZerosElse sectors.new.shown loaded.new) }
+    ensures count { length sectors.new.shown ≡ length sectors.old.shown }
+    ensures table { length loaded.new ≡ length sectors.new.shown }
+    ensures follows { IsPart (F.held _file.now) sectors.new.shown loaded.new }
+    ensures unread { AreZerosElse sectors.new.shown loaded.new }
 {
-    sectors.set_run(first, piece)?;
+    put_loaded(sectors, loaded, n, content)?;
     sectors.tell_whole();
-    mark(loaded, first as usize, piece.len())?;
     Ok(())
 }
 
@@ -305,17 +301,19 @@ fn load_run<F: DiskFile>(
     requires room { len ≤ length buffer.old }
     requires follows { IsPart (F.held file.old) sectors.old.shown loaded.old }
     requires unread { AreZerosElse sectors.old.shown loaded.old }
-    ensures count { OnOk result (length sectors.new.shown ≡ length sectors.old.shown) }
-    ensures table { OnOk result (length loaded.new ≡ length sectors.new.shown) }
-    ensures file { F.held file.new ≡ F.held file.old }
-    ensures follows { OnOk result (IsPart (F.held file.new) sectors.new.shown loaded.new) }
-    ensures unread { OnOk result (AreZerosElse sectors.new.shown loaded.new) }
+    ensures count { length sectors.new.shown ≡ length sectors.old.shown }
+    ensures table { length loaded.new ≡ length sectors.new.shown }
+    ensures same { F.held file.new ≡ F.held file.old }
+    ensures follows { IsPart (F.held file.new) sectors.new.shown loaded.new }
+    ensures unread { AreZerosElse sectors.new.shown loaded.new }
 {
     let piece = &mut buffer[..len];
     if file.read_run(first, piece).is_err() {
         return Err(FileFault::Failed);
     }
-    keep_run(file, sectors, loaded, first, piece)?;
+    for i in 0..len {
+        keep_sector(file, sectors, loaded, first + i as u32, &piece[i])?;
+    }
     Ok(())
 }
 
@@ -340,7 +338,6 @@ fn keep_tail<F: DiskFile>(
     tail: Tail,
     content: &[u8; 512],
 ) -> Result<(), FileFault>
-    requires small { length sectors.old.shown < 2 ^ 32 }
     requires below { tail.sector < length sectors.old.shown }
     requires table { length loaded.old ≡ length sectors.old.shown }
     requires ends_len { length ends.old ≡ length sectors.old.shown }
@@ -348,19 +345,18 @@ fn keep_tail<F: DiskFile>(
     requires follows { IsPart (F.held file.now) sectors.old.shown loaded.old }
     requires unread { AreZerosElse sectors.old.shown loaded.old }
     requires ended { HasEnds (F.held file.now) ends.old }
-    ensures count { OnOk result (length sectors.new.shown ≡ length sectors.old.shown) }
-    ensures table { OnOk result (length loaded.new ≡ length sectors.new.shown) }
-    ensures ends_len { OnOk result (length ends.new ≡ length sectors.new.shown) }
-    ensures follows { OnOk result (IsPart (F.held file.now) sectors.new.shown loaded.new) }
-    ensures unread { OnOk result (AreZerosElse sectors.new.shown loaded.new) }
-    ensures ended { OnOk result (HasEnds (F.held file.now) ends.new) }
+    ensures count { length sectors.new.shown ≡ length sectors.old.shown }
+    ensures table { length loaded.new ≡ length sectors.new.shown }
+    ensures ends_len { length ends.new ≡ length sectors.new.shown }
+    ensures follows { IsPart (F.held file.now) sectors.new.shown loaded.new }
+    ensures unread { AreZerosElse sectors.new.shown loaded.new }
+    ensures ended { HasEnds (F.held file.now) ends.new }
 {
     if has_end(content, tail.first) {
         ends.add(tail.sector as usize, tail.first as u32)?;
         return Ok(());
     }
-    keep_run(file, sectors, loaded, tail.sector, from_ref(content))?;
-    Ok(())
+    keep_sector(file, sectors, loaded, tail.sector, content)
 }
 
 // Reads as many neighbours as there are tails, and keeps of each what is asked for.
@@ -381,13 +377,13 @@ fn read_tails<F: DiskFile>(
     requires follows { IsPart (F.held file.old) sectors.old.shown loaded.old }
     requires unread { AreZerosElse sectors.old.shown loaded.old }
     requires ended { HasEnds (F.held file.old) ends.old }
-    ensures count { OnOk result (length sectors.new.shown ≡ length sectors.old.shown) }
-    ensures table { OnOk result (length loaded.new ≡ length sectors.new.shown) }
-    ensures ends_len { OnOk result (length ends.new ≡ length sectors.new.shown) }
-    ensures file { F.held file.new ≡ F.held file.old }
-    ensures follows { OnOk result (IsPart (F.held file.new) sectors.new.shown loaded.new) }
-    ensures unread { OnOk result (AreZerosElse sectors.new.shown loaded.new) }
-    ensures ended { OnOk result (HasEnds (F.held file.new) ends.new) }
+    ensures count { length sectors.new.shown ≡ length sectors.old.shown }
+    ensures table { length loaded.new ≡ length sectors.new.shown }
+    ensures ends_len { length ends.new ≡ length sectors.new.shown }
+    ensures same { F.held file.new ≡ F.held file.old }
+    ensures follows { IsPart (F.held file.new) sectors.new.shown loaded.new }
+    ensures unread { AreZerosElse sectors.new.shown loaded.new }
+    ensures ended { HasEnds (F.held file.new) ends.new }
 {
     let piece = &mut buffer[..tails.len()];
     if file.read_run(first, piece).is_err() {
@@ -415,16 +411,4 @@ fn row_length(tails: &[Tail]) -> usize
         }
     }
     tails.len()
-}
-
-// So many sectors from number `first` on are in memory now. At `Err` some of them may count so.
-fn mark(loaded: &mut Numbers, first: usize, count: usize) -> Result<(), AllocError>
-    requires small { length loaded.old < 2 ^ 32 }
-    requires fits { first + count ≤ length loaded.old }
-    ensures { OnOk result (HasRunMarked first count loaded.old loaded.new) }
-{
-    for i in first..first + count {
-        loaded.add(i, 1)?;
-    }
-    Ok(())
 }

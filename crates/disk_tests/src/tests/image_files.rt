@@ -418,12 +418,12 @@ type Parted = Result<(Seen, [bool; 4], u64, Seen), FileFault>;
 const CHANGES: [Call; 4] = [Call::Write(0, 9), Call::Sync, Call::Write(2, 9), Call::Sync];
 
 fn load_part(rt: &HostRuntime, path: Path<'_>, load: &Load) -> Parted {
-    let part = PartFile::open(rt, rt.alloc(), path)?;
-    let part = match load {
+    let mut part = PartFile::open(rt, rt.alloc(), path)?;
+    match load {
         Load::Run(first, count) => part.load(*first, *count)?,
         Load::Each(numbers) => part.load_each(numbers)?,
         Load::Tails(tails) => part.load_tails(tails)?,
-    };
+    }
     let mut disk = PartDisk::new(part);
     let seen = see(&mut disk);
     let passed = four_calls(&mut disk, CHANGES);

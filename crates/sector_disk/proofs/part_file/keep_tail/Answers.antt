@@ -1,7 +1,4 @@
-use Rattle.std.proofs.Common.{arith, sym, subst}
-use Rattle.std.specs.Prelude.{IfSome}
-use Rattle.sector_disk.specs.Disk.{Image}
-use Rattle.sector_disk.specs.Files.{HasRun}
+use Rattle.std.proofs.Common.{arith}
 use Rattle.sector_disk.proofs.Parted.{one_ended}
 use Rattle.sector_disk.proofs.part_file.keep_tail.Goals as goal
 
@@ -11,9 +8,8 @@ returns-then-has_end-clause-ended g c =
     (let below = c.requires.below in let len = c.requires.ends_len in omega (arith, below, len)) c.in_ok-add.ensures.ok c.requires.has
     (c.has_end.ensures.zeros c.if-has_end.true) c.requires.ended
 
-pub keep_run-requires-clause-has : goal.keep_run-requires-clause-has
-keep_run-requires-clause-has g c =
-    subst (λ (run : Image). IfSome (g.F.DiskFile.held c.args.file.now) (HasRun c.args.tail.sector run)) (sym c.from_ref.ensures.value) c.requires.has
-
 pub returns-clause-follows : goal.returns-clause-follows
-returns-clause-follows g c = c.in_ok-keep_run.ensures.follows
+returns-clause-follows g c = c.keep_sector.ensures.follows
+
+pub returns-clause-unread : goal.returns-clause-unread
+returns-clause-unread g c = c.keep_sector.ensures.unread

@@ -1,7 +1,18 @@
-use Rattle.std.proofs.Common.{◌∙◌, ◌<◌, length, sym, refl, rules}
+use Rattle.std.proofs.Common.{◌∙◌, ◌<◌, length, sym, subst, refl, rules}
+use Rattle.std.specs.Prelude.{Option}
+use Rattle.sector_disk.specs.Record.{Held}
+use Rattle.sector_disk.specs.Parts.{IsPart, HasEnds}
 use Rattle.sector_disk.proofs.Parted.{one_of_run}
 use Rattle.sector_disk.proofs.Recorded.{recorded}
 use Rattle.sector_disk.proofs.part_file.read_tails.Goals as goal
+
+pub returns-then-is_err-clause-follows : goal.returns-then-is_err-clause-follows
+returns-then-is_err-clause-follows g c =
+    subst (λ (f : Option Held). IsPart f c.args.sectors.now.shown c.args.loaded.now) (sym c.read_run.ensures.same) c.requires.follows
+
+pub returns-then-is_err-clause-ended : goal.returns-then-is_err-clause-ended
+returns-then-is_err-clause-ended g c =
+    subst (λ (f : Option Held). HasEnds f c.args.ends.now) (sym c.read_run.ensures.same) c.requires.ended
 
 pub keep_tail-requires-clause-has : goal.keep_tail-requires-clause-has
 keep_tail-requires-clause-has g c =
@@ -26,7 +37,7 @@ keep_tail-requires-clause-ended g c = c.loop-i.invariant.ended
 
 pub loop-i-preserved : goal.loop-i-preserved
 loop-i-preserved g c =
-    let now = c.in_ok-keep_tail.ensures in
+    let now = c.keep_tail.ensures in
     record {
       count = now.count ∙ c.loop-i.invariant.count;
       table = now.table;
@@ -43,7 +54,7 @@ returns g c =
       count = now.count;
       table = now.table;
       ends_len = now.ends_len;
-      file = c.read_run.ensures.same;
+      same = c.read_run.ensures.same;
       follows = now.follows;
       unread = now.unread;
       ended = now.ended;

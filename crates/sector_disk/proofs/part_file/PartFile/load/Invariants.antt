@@ -2,9 +2,9 @@ use Rattle.std.proofs.Common.{◌≡◌, ◌≤◌, ◌-◌, length}
 use Rattle.sector_disk.proofs.part_file.PartFile.load.Given as goal
 
 abbrev pub invariant-loop-at : goal.invariant-loop-at
-invariant-loop-at g l = (l.end ≤ length l.part.sectors.shown)
-    × (length l.part.sectors.shown ≡ length l.initial.part.sectors.shown)
-    × (g.F.DiskFile.held l.part.file ≡ g.F.DiskFile.held l.initial.part.file)
+invariant-loop-at g l = (l.end ≤ length l.self.sectors.shown)
+    × (length l.self.sectors.shown ≡ length l.initial.self.sectors.shown)
+    × (g.F.DiskFile.held l.self.file ≡ g.F.DiskFile.held l.initial.self.file)
 
 abbrev pub decreases-loop-at : goal.decreases-loop-at
 decreases-loop-at g l = l.end - l.at

@@ -2,7 +2,7 @@ use Rattle.std.proofs.Common.{◌≡◌, ◌∙◌, ap, arith, length, replicate
 use Rattle.std.proofs.lemmas.List.{length-replicate}
 use Rattle.sector_disk.specs.Disk.{Image}
 use Rattle.sector_disk.proofs.Parted.{none_ended, none_loaded, part_first, zeros_first}
-use Rattle.sector_disk.proofs.part_file.PartFile.open.Goals as goal
+use Rattle.sector_disk.proofs.part_file.PartFile.over.Goals as goal
 
 pub returns-clause-none : goal.returns-clause-none
 returns-clause-none g c = none_loaded c.in-Ok.count c.in_ok-sectors.loaded c.in_ok-sectors.ensures.loaded
