@@ -23,7 +23,7 @@ pub trait DiskFile {
     fn count(&self) -> io::Result<u64>
         ensures { IfOk result (λ count. IfSome (held self.now) (HasCount count)) };
 
-    /// Gives an empty file so many sectors of zeros, and syncs it.
+    /// Gives the file so many sectors, all of them zeros, and syncs it. What it had is lost.
     fn fill(&mut self, sectors: u32) -> io::Result<()>
         ensures { OnOk result (IfSome (held self.new) (HasStable (replicate sectors (replicate 512 0)))) };
 
@@ -53,6 +53,8 @@ impl DiskFile for File {
     }
 
     fn fill(&mut self, sectors: u32) -> io::Result<()> {
+        // What the file has up to that length would stay.
+        self.set_len(0)?;
         self.set_len(u64::from(sectors) * 512)?;
         self.sync_all()
     }
