@@ -244,27 +244,18 @@ pub others_low : (header area : ℕ) (old new : Image) → ((n : ℕ) → (area_
     → (n : ℕ) → n < 2 → sector new n ≡ sector old n
 others_low header area old new others n low = let room = area_room header area in others n (λ le lt. omega (arith, le, low, room.0))
 
-pub logged_others : (header area count : ℕ) (old headed logged : Image) → count ≤ max_targets header
-    → ((n : ℕ) → (area_start header area ≤ n → n < area_start header area + header → ⊥) → sector headed n ≡ sector old n)
-    → ((n : ℕ) → (area_start header area + header ≤ n → n < area_start header area + 126 + 129 * header → ⊥) → sector logged n ≡ sector headed n)
-    → (n : ℕ) → (area_start header area ≤ n → n < area_start header area + 126 + 129 * header → ⊥) → sector logged n ≡ sector old n
-logged_others header area count old headed logged few first then n out = then n (λ le lt. out (omega (arith, le)) lt) ∙ first n (λ le lt. out le (omega (arith, lt)))
-
 pub next_same : (old new : Image) → sector new 0 ≡ sector old 0 → sector new 1 ≡ sector old 1 → next_at new ≡ next_at old
 next_same old new super one = λ j. next_area (header_of (super j)) (u32_of (one j) 4)
 
-pub logged_from : (entries : List Entry) (header area : ℕ) (old headed logged new : DiskState) → IsReady old → HasHeader header old → HasNext area old → length entries ≤ max_targets header → IsBatch entries
-    → IsOnDisk header old.size entries → new.size ≡ old.size → length new.seen ≡ new.size → HoldsHeader (area_start header area) entries headed.seen
-    → ((n : ℕ) → (area_start header area ≤ n → n < area_start header area + header → ⊥) → sector headed.seen n ≡ sector old.seen n)
-    → ((n : ℕ) → (area_start header area + header ≤ n → n < area_start header area + 126 + 129 * header → ⊥) → sector logged.seen n ≡ sector headed.seen n)
-    → HoldsLog (area_start header area + header) entries logged.seen → new.seen ≡ logged.seen → IsStable new → IsLogged entries new
-logged_from entries header area old headed logged new ready has next few batch on_disk size whole in_header first then in_log same stable =
+pub logged_from : (entries : List Entry) (header area : ℕ) (old new : DiskState) → IsReady old → HasHeader header old → HasNext area old → length entries ≤ max_targets header → IsBatch entries
+    → IsOnDisk header old.size entries → new.size ≡ old.size → length new.seen ≡ new.size
+    → ((n : ℕ) → (area_start header area ≤ n → n < area_start header area + 126 + 129 * header → ⊥) → sector new.seen n ≡ sector old.seen n)
+    → HoldsHeader (area_start header area) entries new.seen → HoldsLog (area_start header area + header) entries new.seen → IsStable new → IsLogged entries new
+logged_from entries header area old new ready has next few batch on_disk size whole others in_header in_log stable =
     let place = ready.is in
     let ts = ready.sectors in
     let valid = place.commit.valid in
     let short = valid.few in
-    let others : (n : ℕ) → (area_start header area ≤ n → n < area_start header area + 126 + 129 * header → ⊥) → sector new.seen n ≡ sector old.seen n =
-    λ n out. ap (λ (l : Image). sector l n) same ∙ logged_others header area (length entries) old.seen headed.seen logged.seen few first then n out in
     let super : sector new.seen 0 ≡ sector old.seen 0 = others_low header area old.seen new.seen others 0 (omega arith) in
     let one : sector new.seen 1 ≡ sector old.seen 1 = others_low header area old.seen new.seen others 1 (omega arith) in
     let is : header ≡ header_on new = has.is ∙ ap header_of (sym super) in
@@ -301,13 +292,8 @@ logged_from entries header area old headed logged new ready has next few batch o
         alone = λ none. ready.alone (sym has.is ∙ is ∙ none);
       };
       stable = λ _. stable;
-      header = λ k lt.
-          (λ j. u32_of (sector new.seen (area_start (sym is j) (sym to j) + k / 128)) (4 * (k % 128)))
-          ∙ ap (λ (l : Image). u32_of (sector l (area_start header area + k / 128)) (4 * (k % 128))) same
-          ∙ ap (λ s. u32_of s (4 * (k % 128))) (then (area_start header area + k / 128) (λ le _. omega (arith, le, lt, few)))
-          ∙ in_header k lt;
-      log = λ k lt.
-          (λ j. sector new.seen (area_start (sym is j) (sym to j) + sym is j + k)) ∙ ap (λ (l : Image). sector l (area_start header area + header + k)) same ∙ in_log k lt;
+      header = λ k lt. (λ j. u32_of (sector new.seen (area_start (sym is j) (sym to j) + k / 128)) (4 * (k % 128))) ∙ in_header k lt;
+      log = λ k lt. (λ j. sector new.seen (area_start (sym is j) (sym to j) + sym is j + k)) ∙ in_log k lt;
     }
 
 -- an empty batch is

@@ -13,7 +13,7 @@ use Rattle.redo_journal.specs.Batch.{Entry, IsBatch, IsOnDisk, targets, target_a
 use Rattle.redo_journal.specs.Meaning.{IsMapped, SameMap, data_of, ReadsBut}
 use Rattle.redo_journal.specs.States.{log_at, next_at, HasHeader, HasNext, IsBeside, IsInPlace, IsReady, IsLogged, HoldsHeader, HoldsLog, HoldsTargets, InLogOr}
 use Rattle.redo_journal.proofs.Entries.{length-targets}
-use Rattle.redo_journal.proofs.Meaning.{commit_stays, commit_stays_low, data_is_not, data_super, header_on, kept, logged_from, logged_others, next_apart, next_same, others_low, ready_data, valid_with}
+use Rattle.redo_journal.proofs.Meaning.{commit_stays, commit_stays_low, data_is_not, data_super, header_on, kept, logged_from, next_apart, next_same, others_low, ready_data, valid_with}
 
 -- ---- what a stop leaves meanwhile
 -- what is written beside superblock, commit sector and the log in use leaves each image reading as before, but for what is written of the map
@@ -135,7 +135,7 @@ written_batch (e ∷ entries) f h placed n other = elim (cases_eq n e.0) [
 ]
 
 -- one batch is written to its sectors, the other logged, and all is stable
-module _ (placed entries : List Entry) (header area : ℕ) (old wrote headed logged new : DiskState) (ready : IsReady old) (has : HasHeader header old) (next : HasNext area old)
+module _ (placed entries : List Entry) (header area : ℕ) (old wrote new : DiskState) (ready : IsReady old) (has : HasHeader header old) (next : HasNext area old)
     (valid : IsOnDisk (header_on old) old.size placed) (beside : IsBeside (targets placed) old) (whole : length wrote.seen ≡ old.size)
     (written : HoldsTargets placed wrote.seen) (others : (n : ℕ) → (Contains (targets placed) n → ⊥) → sector wrote.seen n ≡ sector old.seen n) where
   has_written : HasHeader header (as_written old wrote.seen)
@@ -144,36 +144,23 @@ module _ (placed entries : List Entry) (header area : ℕ) (old wrote headed log
   next_written : HasNext area (as_written old wrote.seen)
   next_written = next ∙ sym (next_is_same (targets placed) old ready valid beside wrote.seen whole others)
 
-  pub logged_beside : length entries ≤ max_targets header → IsBatch entries → IsOnDisk header old.size entries → new.size ≡ old.size → length new.seen ≡ new.size
-      → HoldsHeader (area_start header area) entries headed.seen
-      → ((n : ℕ) → (area_start header area ≤ n → n < area_start header area + header → ⊥) → sector headed.seen n ≡ sector wrote.seen n)
-      → ((n : ℕ) → (area_start header area + header ≤ n → n < area_start header area + 126 + 129 * header → ⊥) → sector logged.seen n ≡ sector headed.seen n)
-      → HoldsLog (area_start header area + header) entries logged.seen → new.seen ≡ logged.seen → IsStable new → IsLogged entries new
-  logged_beside =
-      logged_from entries header area (as_written old wrote.seen) headed logged new (ready_written (targets placed) old ready valid beside wrote.seen whole others) has_written next_written
+  module _ (log : (n : ℕ) → (area_start header area ≤ n → n < area_start header area + 126 + 129 * header → ⊥) → sector new.seen n ≡ sector wrote.seen n) where
+    pub logged_beside : length entries ≤ max_targets header → IsBatch entries → IsOnDisk header old.size entries → new.size ≡ old.size → length new.seen ≡ new.size
+        → HoldsHeader (area_start header area) entries new.seen → HoldsLog (area_start header area + header) entries new.seen → IsStable new → IsLogged entries new
+    logged_beside few batch on_disk size full =
+        logged_from entries header area (as_written old wrote.seen) new (ready_written (targets placed) old ready valid beside wrote.seen whole others) has_written next_written few batch on_disk size full log
 
-  -- it reads as with the first batch
-  pub placed_beside : length entries ≤ max_targets header
-      → ((n : ℕ) → (area_start header area ≤ n → n < area_start header area + header → ⊥) → sector headed.seen n ≡ sector wrote.seen n)
-      → ((n : ℕ) → (area_start header area + header ≤ n → n < area_start header area + 126 + 129 * header → ⊥) → sector logged.seen n ≡ sector headed.seen n)
-      → new.seen ≡ logged.seen → IsLogged entries new → SameMap (data_of new) (with_batch placed (data_of old))
-  placed_beside few first then same is_logged n part =
-      let room = area_room header area in
-      let super : with_batch placed (data_of old) 0 ≡ sector old.seen 0 =
-      sym (written_batch placed (data_of old) (sector wrote.seen) written 0 (λ none. others 0 none ∙ sym (data_super old))) ∙ super_same (targets placed) old ready valid beside wrote.seen whole others in
-      let here : IsMapped header n = subst (λ (h : ℕ). IsMapped h n) (ap header_of super ∙ sym has.is) part in
-      let out : area_start header area ≤ n → n < area_start header area + 126 + 129 * header → ⊥ =
-      λ low high. ⊎_elim (λ (zero : n ≡ 0). omega (arith, zero, low, room.0)) (λ (le : log_end header ≤ n). omega (arith, le, high, room.1)) here in
-      ready_data new is_logged.ready n ∙ ap (λ (l : Image). sector l n) same ∙ logged_others header area (length entries) wrote.seen headed.seen logged.seen few first then n out
-      ∙ written_batch placed (data_of old) (sector wrote.seen) written n (λ none. others n none ∙ sym (ready_data old ready n))
+    -- it reads as with the first batch
+    pub placed_beside : IsLogged entries new → SameMap (data_of new) (with_batch placed (data_of old))
+    placed_beside is_logged n part =
+        let room = area_room header area in
+        let super : with_batch placed (data_of old) 0 ≡ sector old.seen 0 =
+        sym (written_batch placed (data_of old) (sector wrote.seen) written 0 (λ none. others 0 none ∙ sym (data_super old))) ∙ super_same (targets placed) old ready valid beside wrote.seen whole others in
+        let here : IsMapped header n = subst (λ (h : ℕ). IsMapped h n) (ap header_of super ∙ sym has.is) part in
+        let out : area_start header area ≤ n → n < area_start header area + 126 + 129 * header → ⊥ =
+        λ low high. ⊎_elim (λ (zero : n ≡ 0). omega (arith, zero, low, room.0)) (λ (le : log_end header ≤ n). omega (arith, le, high, room.1)) here in
+        ready_data new is_logged.ready n ∙ log n out ∙ written_batch placed (data_of old) (sector wrote.seen) written n (λ none. others n none ∙ sym (ready_data old ready n))
 
-  -- and the next log area is the same
-  pub next_beside : length entries ≤ max_targets header
-      → ((n : ℕ) → (area_start header area ≤ n → n < area_start header area + header → ⊥) → sector headed.seen n ≡ sector wrote.seen n)
-      → ((n : ℕ) → (area_start header area + header ≤ n → n < area_start header area + 126 + 129 * header → ⊥) → sector logged.seen n ≡ sector headed.seen n)
-      → new.seen ≡ logged.seen → HasNext area new
-  next_beside few first then same =
-      let low : (n : ℕ) → n < 2 → sector new.seen n ≡ sector wrote.seen n =
-      λ n two. ap (λ (l : Image). sector l n) same
-      ∙ others_low header area wrote.seen logged.seen (logged_others header area (length entries) wrote.seen headed.seen logged.seen few first then) n two in
-      next_written ∙ sym (next_same wrote.seen new.seen (low 0 (omega arith)) (low 1 (omega arith)))
+    -- and the next log area is the same
+    pub next_beside : HasNext area new
+    next_beside = next_written ∙ sym (next_same wrote.seen new.seen (others_low header area wrote.seen new.seen log 0 (omega arith)) (others_low header area wrote.seen new.seen log 1 (omega arith)))

@@ -25,7 +25,7 @@ use Rattle.sector_disk.proofs.Moments.{joined, weaker}
 use Rattle.redo_journal.specs.Batch.{Entry, IsOnDisk, targets, with_batch}
 use Rattle.redo_journal.specs.Meaning.{HasLayout, HasValidCommit, IsMapped, IsSpare, SameMap, SameUsed, ReadsAs, ReadsBut, MeansAs, MeansUsed, LeavesAllOrNone, LeavesSameMap, LeavesUsedOr, data_of}
 use Rattle.redo_journal.specs.States.{IsAtRest, IsIdle, StandsIn}
-use Rattle.redo_journal.proofs.Meaning.{batch_same, commit_stays_low, header_on, mapped_by, reads_same, super_on_disk}
+use Rattle.redo_journal.proofs.Meaning.{batch_same, commit_stays_low, either_on, header_on, mapped_by, reads_same, same_chain, super_on_disk}
 
 -- a map has one layout
 one_super : {map : SectorMap} {p q : Geometry} (a : HasLayout map p) (b : HasLayout map q) → a.super ≡ b.super
@@ -132,3 +132,15 @@ module _ (placed entries : List Entry) (header : ℕ) (old : DiskState) (valid :
       → LeavesUsedOr (with_batch entries (with_batch placed (data_of old))) old new
   both_installed sealed new size same first second =
       joined first (weaker (λ image reads. inr (reads_same old.size sealed.size (data_of sealed) (with_batch entries (with_batch placed (data_of old))) size same image reads)) second)
+
+-- with an empty first batch each image reads as before, or with the whole second one
+module _ (entries : List Entry) (header : ℕ) (old logged sealed : DiskState) (on_disk : IsOnDisk header old.size entries) (size : logged.size ≡ old.size)
+    (same : SameMap (data_of logged) (data_of old)) (first : LeavesSameMap old logged) (second : LeavesAllOrNone entries logged sealed) where
+  pub logged_left : LeavesAllOrNone entries old sealed
+  logged_left = joined (weaker (λ image reads. inl reads) first) (weaker (either_on entries header old logged on_disk size same) second)
+
+  pub logged_installed : (new : DiskState) → sealed.size ≡ logged.size → SameMap (data_of sealed) (with_batch entries (data_of logged)) → LeavesSameMap sealed new → LeavesAllOrNone entries old new
+  logged_installed new size' changed third =
+      let after = with_batch entries (data_of old) in
+      let both = same_chain (data_of sealed) (with_batch entries (data_of logged)) after changed (batch_same entries (data_of logged) (data_of old) (super_on_disk entries header old.size (data_of old) on_disk) same) in
+      joined logged_left (weaker (λ image reads. inr (reads_same old.size sealed.size (data_of sealed) after (size' ∙ size) both image reads)) third)

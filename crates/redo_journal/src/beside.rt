@@ -4,11 +4,11 @@ ghost use Rattle.std.specs.Prelude.{◌≡◌, ◌≤◌, ◌<◌, ℕ, length, 
 ghost use Rattle.fs_layout.specs.Header.{max_targets};
 ghost use Rattle.redo_journal.specs.Batch.{IsOnDisk, added, targets, with_batch};
 ghost use Rattle.fs_layout.specs.Bytes.{SectorMap};
-ghost use Rattle.redo_journal.specs.Meaning.{HasLayout, IsSpare, SameMap, data_of, disk_of, LeavesMapBut, LeavesUsedOr};
+ghost use Rattle.redo_journal.specs.Meaning.{HasLayout, IsSpare, SameMap, data_of, disk_of, LeavesAllOrNone, LeavesMapBut, LeavesUsedOr};
 ghost use Rattle.redo_journal.specs.States.{header_at, HasHeader, HasNext, IsBeside, IsNoTarget, IsReady, IsLogged, StandsIn};
 ghost use Rattle.sector_disk.specs.Disk.{HasCause, HasWriteCause};
 
-use crate::steps::{write_header, write_log, write_targets};
+use crate::steps::{log_batch, write_targets};
 use crate::{Batch, Broken, Journal};
 use fs_layout::Geometry;
 use sector_disk::{Disk, DiskFault};
@@ -41,9 +41,7 @@ pub(crate) fn log_beside<D: Disk>(
     // Its clause tells a proof what each batch is.
     let _count = batch.len();
     write_targets(disk, placed)?;
-    write_header(disk, header, area, batch)?;
-    write_log(disk, header, area, batch)?;
-    disk.sync()
+    log_batch(disk, header, area, batch)
 }
 
 /// Commits two batches as one: the contents of the first are written once, to their places, which are free until then, and
@@ -66,6 +64,10 @@ pub fn commit_beside<D: Disk>(
     // A stop at any moment of the call leaves what means as before it, but in sectors that are free, or reads with both batches.
     ensures images { LeavesUsedOr (with_batch batch.now.entries (with_batch placed.now.entries (data_of (D.state journal))))
         (D.state journal) (D.state (disk_of result)) }
+
+    // With an empty first batch it leaves what reads as before it, or with the whole second one, in sectors that are free too.
+    ensures none_placed { length placed.now.entries ≡ 0
+        → LeavesAllOrNone batch.now.entries (D.state journal) (D.state (disk_of result)) }
 
     // It is the second batch's commit that stands then, or none.
     ensures stands { IfOk result (λ after. StandsIn (targets batch.now.entries) (D.state after)) }

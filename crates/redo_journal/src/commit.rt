@@ -10,12 +10,12 @@ ghost use Rattle.redo_journal.specs.States.{next_at, log_at, HasHeader, HasNext,
 ghost use Rattle.sector_disk.specs.Disk.{sector, HasCause, HasWriteCause, CountsWrites};
 
 use crate::Batch;
-use crate::steps::{copy_log, write_header, write_log, write_targets};
+use crate::steps::{copy_log, log_batch, write_targets};
 use fs_layout::{COMMIT_SECTOR, Commit, other_area};
 use sector_disk::{Disk, DiskFault, write_synced};
 
 /// Writes the batch into a log area and syncs. Each image reads as before.
-pub(crate) fn log_batch<D: Disk>(
+pub(crate) fn log_only<D: Disk>(
     disk: &mut D,
     header: u32,
     area: u32,
@@ -37,9 +37,7 @@ pub(crate) fn log_batch<D: Disk>(
     if batch.sectors().is_empty() {
         return Ok(());
     }
-    write_header(disk, header, area, batch)?;
-    write_log(disk, header, area, batch)?;
-    disk.sync()
+    log_batch(disk, header, area, batch)
 }
 
 /// Writes the commit sector and syncs. Each image reads as before, or with the whole batch. It answers the area of the next commit.

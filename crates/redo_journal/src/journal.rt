@@ -1,6 +1,6 @@
 //! The states of a commit. Each owns the disk, so that a disk has one of them at a time.
 
-ghost use Rattle.std.specs.Prelude.{◌≡◌, ◌<◌, ◌≤◌, ℕ, List, length, Some, Ok, IfOk, IfSome, OnOk, Contains, IsTrue};
+ghost use Rattle.std.specs.Prelude.{◌≡◌, ◌<◌, ◌≤◌, ℕ, List, length, Some, None, Ok, IfOk, IfSome, OnOk, Contains, IsTrue};
 ghost use Rattle.redo_journal.specs.Batch.{IsOnDisk, targets, with_batch};
 ghost use Rattle.redo_journal.specs.Meaning.{HasLayout, IsMapped, IsSpare, SameMap, data_of, disk_of, EachReadsAs, MeansUsed, LeavesSameMap, LeavesAllOrNone};
 ghost use Rattle.fs_layout.specs.Header.{max_targets};
@@ -9,7 +9,7 @@ ghost use Rattle.sector_disk.specs.Disk.{IsSame, ForgetsPast, Elapses, LeavesOnl
 
 use crate::Batch;
 use crate::beside::log_beside;
-use crate::commit::{install_batch, log_batch, seal_batch, settle_commit};
+use crate::commit::{install_batch, log_only, seal_batch, settle_commit};
 use fs_layout::{Geometry, SECTOR_BITS, Super};
 use sector_disk::{CrashDisk, Disk, DiskFault};
 use std::marker::Model;
@@ -129,7 +129,7 @@ impl<D: Disk> Journal<D> {
             header,
             area,
         } = self;
-        match log_batch(&mut disk, header, area, batch) {
+        match log_only(&mut disk, header, area, batch) {
             Ok(()) => Ok(Logged { disk, header, area }),
             Err(DiskFault) => Err(Broken { disk }),
         }
@@ -151,6 +151,9 @@ impl<D: Disk> Journal<D> {
 
         // A stop at any moment of the call leaves what means as before it, but in sectors that are free.
         ensures any_moment { LeavesOnly (D.state self) (D.state (disk_of result)) (MeansUsed (D.state self).size (D.state self).seen) }
+
+        // With an empty first batch it leaves what reads as before it.
+        ensures none_placed { length placed.now.entries ≡ 0 → LeavesSameMap (D.state self) (D.state (disk_of result)) }
 
         ensures size { (D.state (disk_of result)).size ≡ (D.state self).size }
         ensures cause { HasCause (D.state self) (D.state (disk_of result)) result }
@@ -197,10 +200,11 @@ impl<D: Disk> Journal<D> {
         self.disk.find(n)
     }
 
-    /// The layout that sector 0 tells of, of version 3, where the disk has that sector in memory and is as large as the layout. Of versions
-    /// 1 and 2 none is told: all that a commit changes there goes through the log, as it always did.
+    /// The layout that sector 0 tells of, where the disk has that sector in memory and is as large as the layout. On a disk without header
+    /// sectors, as versions 1 and 2 are, none is told: all that a commit changes there goes through the log.
     pub fn layout(&self) -> Option<Geometry>
-        ensures { IfSome result (λ p. HasLayout (data_of (D.state self.now)) p × (p.sectors ≤ (D.state self.now).size)) }
+        ensures told { IfSome result (λ p. HasLayout (data_of (D.state self.now)) p × (p.sectors ≤ (D.state self.now).size)) }
+        ensures alone { header_at (D.state self.now).seen ≡ 0 → result ≡ None }
     {
         if self.header == 0 {
             return None;
@@ -273,6 +277,9 @@ impl<D: Disk> Journal<D> {
     pub fn into_disk(self) -> D
         ensures disk { result ≡ self }
         ensures ready { EachReadsAs (data_of (D.state result)) (D.state result) }
+
+        // Where the log has one area no commit is there.
+        ensures alone { header_at (D.state result).seen ≡ 0 → IsIdle (D.state result) }
     {
         let Journal {
             disk,

@@ -6,14 +6,39 @@ ghost use Rattle.fs_layout.specs.declared.header.TheConstants.{MAX_HEADER};
 ghost use Rattle.fs_layout.specs.Commit.{AreTargets};
 ghost use Rattle.redo_journal.specs.Batch.{IsOnDisk, targets};
 ghost use Rattle.redo_journal.specs.States.{header_at, HoldsHeader, HoldsLog, HoldsTargets, HasReplayed, InLog, InTargets};
-ghost use Rattle.sector_disk.specs.Disk.{AddsOnly, IsImageOr, LeavesOnly, HasCause, HasWriteCause, CountsWrites, sector};
+ghost use Rattle.sector_disk.specs.Disk.{AddsOnly, IsImageOr, IsStable, LeavesOnly, HasCause, HasWriteCause, CountsWrites, sector};
 
 use crate::Batch;
 use fs_layout::{Commit, area_start};
 use sector_disk::{Disk, DiskFault};
 
-/// Writes the batch's sectors that the commit sector has no room for into the sectors of a log area's header, from the first on.
-pub(crate) fn write_header<D: Disk>(
+/// Writes the batch into a log area and syncs: so what was written before is stable too.
+pub(crate) fn log_batch<D: Disk>(
+    disk: &mut D,
+    header: u32,
+    area: u32,
+    batch: &Batch,
+) -> Result<(), DiskFault>
+    requires most { header ≤ MAX_HEADER }
+    requires few { length batch.now.entries ≤ max_targets header }
+    requires room { log_end header ≤ (D.state disk.old).size }
+    ensures stable { OnOk result (IsStable (D.state disk.new)) }
+    ensures header { OnOk result (HoldsHeader (area_start header area) batch.now.entries (D.state disk.new).seen) }
+    ensures log { OnOk result (HoldsLog (area_start header area + header) batch.now.entries (D.state disk.new).seen) }
+    ensures others { (n : ℕ) → (area_start header area ≤ n → n < area_start header area + 126 + 129 * header → ⊥)
+        → sector (D.state disk.new).seen n ≡ sector (D.state disk.old).seen n }
+    ensures adds { AddsOnly (InLog header area) (D.state disk.old) (D.state disk.new) }
+    ensures any_moment { LeavesOnly (D.state disk.old) (D.state disk.new) (IsImageOr (InLog header area) (D.state disk.old)) }
+    ensures cause { HasCause (D.state disk.old) (D.state disk.new) result }
+    ensures told { HasWriteCause (D.state disk.old) (D.state disk.new) result }
+{
+    write_header(disk, header, area, batch)?;
+    write_log(disk, header, area, batch)?;
+    disk.sync()
+}
+
+// Writes the batch's sectors that the commit sector has no room for into the sectors of a log area's header, from the first on.
+fn write_header<D: Disk>(
     disk: &mut D,
     header: u32,
     area: u32,
@@ -38,13 +63,8 @@ pub(crate) fn write_header<D: Disk>(
     Ok(())
 }
 
-/// Writes the batch's contents into the other sectors of that log area, which lie behind its header, from the first on.
-pub(crate) fn write_log<D: Disk>(
-    disk: &mut D,
-    header: u32,
-    area: u32,
-    batch: &Batch,
-) -> Result<(), DiskFault>
+// Writes the batch's contents into the other sectors of that log area, which lie behind its header, from the first on.
+fn write_log<D: Disk>(disk: &mut D, header: u32, area: u32, batch: &Batch) -> Result<(), DiskFault>
     requires most { header ≤ MAX_HEADER }
     requires few { length batch.now.entries ≤ max_targets header }
     requires room { log_end header ≤ (D.state disk.old).size }

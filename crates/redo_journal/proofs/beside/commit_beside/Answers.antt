@@ -6,8 +6,8 @@ use Rattle.sector_disk.specs.Disk.{DiskState}
 use Rattle.redo_journal.specs.Batch.{Entry, IsOnDisk, targets, with_batch}
 use Rattle.redo_journal.specs.Meaning.{HasValidCommit, IsSpare, SameMap, data_of, disk_of}
 use Rattle.redo_journal.specs.States.{header_at}
-use Rattle.redo_journal.proofs.Meaning.{same_chain}
-use Rattle.redo_journal.proofs.Used.{both_installed, both_left, both_same}
+use Rattle.redo_journal.proofs.Meaning.{same_chain, same_map}
+use Rattle.redo_journal.proofs.Used.{both_installed, both_left, both_same, logged_installed, logged_left}
 use Rattle.redo_journal.proofs.Causes.{cause_at_err, cause_then, told_at_err, told_then}
 use Rattle.redo_journal.proofs.beside.commit_beside.Goals as goal
 
@@ -43,6 +43,16 @@ returns-in-Ok-seal-clause-changed g c =
     c.requires.places c.requires.on_disk c.requires.spare c.in-Ok.ensures.placed c.in-Ok-seal.ensures.changed in
     IfOk-weaker c.install.result _ _ (λ after is. same_chain (data_of (g.D.Disk.state after)) (data_of sealed) _ is same) c.install.ensures.same
 
+pub returns-in-Ok-seal-clause-none_placed : goal.returns-in-Ok-seal-clause-none_placed
+returns-in-Ok-seal-clause-none_placed g c = λ none.
+    let state = g.D.Disk.state in
+    let first = c.in-Ok.ensures in
+    let second = c.in-Ok-seal.ensures in
+    let kept = first.none_placed none in
+    logged_installed c.args.batch.now.entries _ (state c.args.journal) (state c.in-Ok.logged) (state c.in-Ok-seal.sealed) c.requires.on_disk first.size
+    (same_map (state c.args.journal) (state c.in-Ok.logged) (g.met.D.Disk.counts_now c.in-Ok.logged) (g.met.D.Disk.seen_is_image c.in-Ok.logged) first.size kept) kept second.any_moment
+    (state (disk_of c.install.result)) second.size second.changed c.install.ensures.any_moment
+
 pub seal-requires : goal.seal-requires
 seal-requires g c = c.in-Ok.ensures.logged
 
@@ -61,7 +71,7 @@ returns-in-Ok-seal-clause-told g c = told_then c.in-Ok.ensures.told (told_then c
 pub returns-in-Err : goal.returns-in-Err
 returns-in-Err g c =
     let failed = c.in-Err.ensures in
-    record { changed = tt; images = weaker (λ image means. inl means) failed.any_moment; stands = tt; size = failed.size; cause = cause_at_err failed.cause; told = told_at_err failed.told }
+    record { changed = tt; images = weaker (λ image means. inl means) failed.any_moment; none_placed = λ none. weaker (λ image reads. inl reads) (failed.none_placed none); stands = tt; size = failed.size; cause = cause_at_err failed.cause; told = told_at_err failed.told }
 
 pub log_beside-requires : goal.log_beside-requires
 log_beside-requires g c =
@@ -79,6 +89,10 @@ returns-in-Err-seal g c =
       images =
           both_left c.args.placed.now.entries c.args.batch.now.entries _ before (c.tell_ready.ensures before.seen seen).commit c.requires.places c.requires.on_disk c.requires.spare
           (g.D.Disk.state c.in-Ok.logged) (g.D.Disk.state c.in-Err-seal.broken) logged.size logged.placed logged.any_moment failed.any_moment;
+      none_placed = λ none.
+          let kept = logged.none_placed none in
+          logged_left c.args.batch.now.entries _ before (g.D.Disk.state c.in-Ok.logged) (g.D.Disk.state c.in-Err-seal.broken) c.requires.on_disk logged.size
+          (same_map before (g.D.Disk.state c.in-Ok.logged) (g.met.D.Disk.counts_now c.in-Ok.logged) (g.met.D.Disk.seen_is_image c.in-Ok.logged) logged.size kept) kept failed.any_moment;
       stands = tt;
       size = failed.size ∙ logged.size;
       cause = cause_then logged.cause (cause_at_err failed.cause);

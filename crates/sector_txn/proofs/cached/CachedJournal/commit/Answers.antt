@@ -54,7 +54,7 @@ invariant_of-result g c =
           c.self.invariant.0 pair (c.forget_all.ensures.kept pair kept) mapped ∙ sym apart ∙ sym (changed pair.0 (mapped_after entries old new pair.0 changed part)),
       record {
         room = ap (λ (b : BatchView). b.most) c.hand_over.ensures.last ∙ c.log_some.ensures.most ∙ waits.log ∙ ap max_targets (sym header);
-        known = IfSome_then c.layout-layout.result c.layout-layout.ensures
+        known = IfSome_then c.layout-layout.result c.layout-layout.ensures.told
             (λ p both. (both.0, both.1, subst (λ (b : BatchView). StandsIn (targets b.entries) new) (c.deref-4.ensures ∙ sym c.hand_over.ensures.last) c.in-Ok.ensures.stands));
       },
     )
