@@ -1,9 +1,10 @@
 -- What waits, and the commit that stands.
 use Rattle.std.proofs.Common.{◌≡◌, ◌∙◌, ◌+◌, ◌≤◌, ◌<◌, ℕ, List, [], ◌∷◌, ◌++◌, length, cond, eqb, not, ap, arith, refl, sym, subst}
-use Rattle.std.proofs.lemmas.List.{map-append}
+use Rattle.std.proofs.lemmas.List.{length-append, map-append}
 use Rattle.std.proofs.lemmas.List.Elements.{All-append, All-nil}
 use Rattle.std.proofs.lemmas.List.Sums.{count_by-le-length}
 use Rattle.std.specs.Prelude.{All, Contains, Option, Some, None, IfSome, IfNone}
+use Rattle.fs_layout.specs.declared.commit.TheConstants.{MAX_TARGETS}
 use Rattle.fs_layout.specs.declared.geometry.Geometry.{Geometry}
 use Rattle.fs_layout.specs.Bytes.{SectorMap}
 use Rattle.fs_layout.specs.Recovered.{recovered}
@@ -58,6 +59,7 @@ still_last old new layout last same has = record {
   room = shown (λ size image. last.most ≡ max_targets (header_at image)) old new same has.room;
   known = shown (λ size image. IfSome layout (λ p. HasLayout (recovered size (sector image)) p × (p.sectors ≤ size)
       × ((ts : List ℕ) (n : ℕ) → IsCommit size (sector image) ts → Contains ts n → Contains (targets last.entries) n))) old new same has.known;
+  alone = shown (λ size image. header_at image ≡ 0 → layout ≡ None) old new same has.alone;
 }
 
 -- and the same may wait
@@ -67,10 +69,18 @@ still_waiting old new placed logged same waits = record {
   on_disk = shown (λ size image. IsOnDisk (header_at image) size logged.entries) old new same waits.on_disk;
   spare = shown (λ size image. All (IsSpare (recovered size (sector image))) (targets placed.entries)) old new same waits.spare;
   beside = shown (λ size image. All (λ n. (ts : List ℕ) → IsCommit size (sector image) ts → Contains ts n → ⊥) (targets placed.entries)) old new same waits.beside;
+  alone = shown (λ size image. header_at image ≡ 0 → placed.entries ≡ []) old new same waits.alone;
   few = shown (λ size image. length logged.entries ≤ max_targets (header_at image)) old new same waits.few;
   log = shown (λ size image. logged.most ≡ max_targets (header_at image)) old new same waits.log;
   room = shown (λ size image. max_delta (header_at image) ≤ placed.most) old new same waits.room;
 }
+
+-- where the log has one area no more waits than a commit sector names
+pub few_waits : (disk : DiskState) (placed logged : BatchView) → IsWaiting disk placed logged → header_at disk.seen ≡ 0 → length (all_waiting placed.entries logged.entries) ≤ MAX_TARGETS
+few_waits disk placed logged waits header =
+    let few = waits.few in
+    let none = ap (λ (l : List Entry). length l) (waits.alone header) in
+    omega (arith, few, header, none, length-append logged.entries placed.entries)
 
 -- ---- after a commit
 none_at : (P : ℕ → Type 0) (entries : List Entry) → entries ≡ [] → All P (targets entries)
@@ -84,6 +94,7 @@ nothing_waits disk placed logged unplaced unlogged log room = record {
   on_disk = none_at (λ t. (log_end (header_at disk.seen) ≤ t) × (t < disk.size)) logged.entries unlogged;
   spare = none_at (IsSpare (data_of disk)) placed.entries unplaced;
   beside = none_at (IsNoTarget disk) placed.entries unplaced;
+  alone = λ header. unplaced;
   few = omega (arith, ap (λ (l : List Entry). length l) unlogged);
   log = log;
   room = room;
@@ -107,16 +118,17 @@ none_then (Some x) implies none = none
 -- in both batches,
 pub kept_beside : (disk : DiskState) (placed logged placed_now logged_now : BatchView) (delta : List Entry) → IsWaiting disk placed logged → IsOnDisk (header_at disk.seen) disk.size delta
     → length logged.entries + added logged.entries delta ≤ logged.most
-    → All (IsSpare (data_of disk)) (targets placed_now.entries) → All (IsNoTarget disk) (targets placed_now.entries) → length logged_now.entries ≤ length logged.entries + added logged.entries delta
+    → All (IsSpare (data_of disk)) (targets placed_now.entries) → All (IsNoTarget disk) (targets placed_now.entries) → (header_at disk.seen ≡ 0 → placed_now.entries ≡ []) → length logged_now.entries ≤ length logged.entries + added logged.entries delta
     → ((header size : ℕ) → IsOnDisk header size placed.entries → IsOnDisk header size logged.entries → IsOnDisk header size delta → IsOnDisk header size placed_now.entries × IsOnDisk header size logged_now.entries)
     → placed_now.most ≡ placed.most → logged_now.most ≡ logged.most → IsWaiting disk placed_now logged_now
-kept_beside disk placed logged placed_now logged_now delta waits there room spare beside few on_disk places log =
+kept_beside disk placed logged placed_now logged_now delta waits there room spare beside alone few on_disk places log =
     let both = on_disk (header_at disk.seen) disk.size waits.places waits.on_disk there in
     record {
       places = both.0;
       on_disk = both.1;
       spare = spare;
       beside = beside;
+      alone = alone;
       few = omega (arith, few, room, waits.log);
       log = log ∙ waits.log;
       room = omega (arith, places, waits.room);
@@ -131,6 +143,7 @@ kept_logged disk placed logged logged_now delta waits there room len on_disk log
   on_disk = on_disk (header_at disk.seen) disk.size waits.on_disk there;
   spare = waits.spare;
   beside = waits.beside;
+  alone = waits.alone;
   few = omega (arith, len, room, waits.log);
   log = log ∙ waits.log;
   room = waits.room;
@@ -145,6 +158,7 @@ some_logged disk placed logged placed_now logged_now waits same few on_disk log 
       on_disk = on_disk (header_at disk.seen) disk.size waits.places waits.on_disk;
       spare = waits.spare;
       beside = waits.beside;
+      alone = waits.alone;
       few = omega (arith, few, log, waits.log);
       log = log ∙ waits.log;
       room = waits.room;

@@ -1,13 +1,16 @@
 -- What a stop leaves of a store, from one call to the next.
-use Rattle.std.proofs.Common.{◌≡◌, inl, inr, ⊎_elim, refl, ◌∙◌, subst}
+use Rattle.std.proofs.Common.{◌≡◌, inl, inr, ⊎_elim, List, refl, ◌∙◌, subst}
 use Rattle.std.specs.Prelude.{Result, Ok, Err, IfOk}
 use Rattle.fs_layout.specs.Bytes.{SectorMap}
 use Rattle.sector_disk.specs.Disk.{DiskState, Image, IsImage, IsNarrowed, OnlyReads}
 use Rattle.sector_disk.proofs.Moments.{joined, narrowed, reads_then, started, weaker}
-use Rattle.redo_journal.specs.Meaning.{SameMap, LeavesSameMap, LeavesUsedOr, MeansUsed, data_of}
+use Rattle.redo_journal.specs.Batch.{BatchView, Entry, with_batch}
+use Rattle.redo_journal.specs.States.{header_at}
+use Rattle.redo_journal.specs.Meaning.{EachReadsAs, SameMap, LeavesSameMap, LeavesUsedOr, MeansUsed, data_of}
 use Rattle.redo_journal.proofs.Meaning.{reads_same}
-use Rattle.sector_txn.specs.Images.{IsOneOf, LeavesOldOr, LeavesOneOf, MeansUsedBefore}
-use Rattle.sector_txn.specs.Stores.{StoreView, present}
+use Rattle.sector_txn.specs.Images.{IsOneOf, LeavesOldOr, LeavesOneOf, LogsAll, MeansUsedBefore}
+use Rattle.sector_txn.specs.Stores.{IsWaiting, StoreView, all_waiting, present}
+use Rattle.sector_txn.proofs.Commits.{few_waits}
 
 -- an image means what it means itself
 pub means_itself : {disk : DiskState} {image : Image} → IsImage disk image → MeansUsedBefore disk image
@@ -79,3 +82,24 @@ after_reads only_now reads run = record {
 pub store_left : {D : Type 0} (state : D → DiskState) {inside seen : StoreView D} {new : DiskState} → inside ≡ seen → LeavesOldOr (present state inside) (state inside.disk) new
     → LeavesOldOr (present state seen) (state seen.disk) new
 store_left state {new = new} is left = subst (λ store. LeavesOldOr (present state store) (state store.disk) new) is left
+
+-- ---- where all that waits goes through the log
+-- a commit of nothing
+pub nothing_logs : {placed logged : BatchView} {disk : DiskState} → IsWaiting disk placed logged → ((image : Image) → disk.left_since disk.moment image → IsImage disk image) → EachReadsAs (data_of disk) disk
+    → header_at disk.seen ≡ 0 → LogsAll (all_waiting placed.entries logged.entries) disk disk
+nothing_logs {placed} {logged} {disk} waits only_now ready header = record {
+  few = few_waits disk placed logged waits header;
+  any_moment = started only_now (λ image is. inl (ready image is));
+}
+
+-- after a commit, a step that leaves the same map
+pub logs_closed : (waiting : List Entry) (old mid new : DiskState) → mid.size ≡ old.size → SameMap (data_of mid) (with_batch waiting (data_of old)) → LogsAll waiting old mid → LeavesSameMap mid new → LogsAll waiting old new
+logs_closed waiting old mid new size same first then = record {
+  few = first.few;
+  any_moment = joined first.any_moment (weaker (λ image reads. inr (reads_same old.size mid.size (data_of mid) (with_batch waiting (data_of old)) size same image reads)) then);
+}
+
+-- and a store's, as it is seen
+pub store_logs : {D : Type 0} (state : D → DiskState) {inside seen : StoreView D} {new : DiskState} → inside ≡ seen
+    → (header_at (state inside.disk).seen ≡ 0 → LogsAll inside.waiting (state inside.disk) new) → header_at (state seen.disk).seen ≡ 0 → LogsAll seen.waiting (state seen.disk) new
+store_logs state {new = new} is run = subst (λ store. header_at (state store.disk).seen ≡ 0 → LogsAll store.waiting (state store.disk) new) is run

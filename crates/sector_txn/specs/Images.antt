@@ -2,9 +2,12 @@
 --     MeansUsedBefore        an image that means what one of the start did, where sectors are in use
 --     IsOneOf        such an image, or one that reads as one of two maps
 --     LeavesOneOf, LeavesOldOr        what a stop leaves at any moment of a call
-use Rattle.std.specs.Prelude.{◌≡◌, ◌⊎◌}
+--     LogsAll        what a commit leaves where all that waits goes through the log
+use Rattle.std.specs.Prelude.{◌≡◌, ◌≤◌, ◌⊎◌, List, length}
+use Rattle.fs_layout.specs.declared.commit.TheConstants.{MAX_TARGETS}
 use Rattle.fs_layout.specs.Bytes.{SectorMap}
-use Rattle.redo_journal.specs.Meaning.{ReadsAs, MeansUsed}
+use Rattle.redo_journal.specs.Batch.{Entry}
+use Rattle.redo_journal.specs.Meaning.{ReadsAs, MeansUsed, LeavesAllOrNone}
 use Rattle.sector_disk.specs.Disk.{DiskState, Image, IsImage, LeavesOnly}
 
 -- a stop might have left, at the start, an image that means what this one does in the sectors that are in use
@@ -25,3 +28,9 @@ pub record LeavesOneOf (before after : SectorMap) (old new : DiskState) : Type 0
 -- with one map: a stop leaves what means what an image of the start did, or reads as the map
 abbrev pub LeavesOldOr : SectorMap → DiskState → DiskState → Type 0
 LeavesOldOr sectors old new = LeavesOneOf sectors sectors old new
+
+-- no more sectors wait than the commit sector names, and a stop at any moment since old leaves what reads as old does, or as that with all of
+-- them: in each sector, also in those that are free
+pub record LogsAll (waiting : List Entry) (old new : DiskState) : Type 0 where
+  pub few : length waiting ≤ MAX_TARGETS
+  pub any_moment : LeavesAllOrNone waiting old new

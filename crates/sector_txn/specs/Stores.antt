@@ -4,7 +4,7 @@
 --     disk_after        the disk in what `keep` and `flush` give
 --     all_waiting        what waits, of which some goes to its place alone and the rest through the log
 --     IsTxn, IsWaiting        what each transaction is, and what waits in each store
-use Rattle.std.specs.Prelude.{◌≡◌, ◌-◌, ◌≤◌, ◌++◌, All, List, length, Result, Ok, Err}
+use Rattle.std.specs.Prelude.{◌≡◌, ◌-◌, ◌≤◌, ◌++◌, All, List, [], length, Result, Ok, Err}
 use Rattle.fs_layout.specs.Bytes.{SectorMap}
 use Rattle.redo_journal.specs.Batch.{BatchView, Entry, IsOnDisk, has_entry, targets, with_batch}
 use Rattle.fs_layout.specs.Header.{max_delta, max_targets}
@@ -60,12 +60,14 @@ pub record IsTxn (disk : DiskState) (delta : List Entry) : Type 0 where
   pub on_disk : IsOnDisk (header_at disk.seen) disk.size delta
 
 -- Two batches wait, all of their sectors on the disk. Those that go to their places alone are free in what the disk reads as, and none is a
--- target of the commit that stands. The log has room for the others, and each batch has memory for what may come to it.
+-- target of the commit that stands; where the log has one area there are none. The log has room for the others, and each batch has memory for
+-- what may come to it.
 pub record IsWaiting (disk : DiskState) (placed logged : BatchView) : Type 0 where
   pub places : IsOnDisk (header_at disk.seen) disk.size placed.entries
   pub on_disk : IsOnDisk (header_at disk.seen) disk.size logged.entries
   pub spare : All (IsSpare (data_of disk)) (targets placed.entries)
   pub beside : All (IsNoTarget disk) (targets placed.entries)
+  pub alone : header_at disk.seen ≡ 0 → placed.entries ≡ []
   pub few : length logged.entries ≤ max_targets (header_at disk.seen)
   pub log : logged.most ≡ max_targets (header_at disk.seen)
   pub room : max_delta (header_at disk.seen) ≤ placed.most

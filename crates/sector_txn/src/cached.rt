@@ -8,14 +8,14 @@ ghost use Rattle.redo_journal.specs.Batch.{IsOnDisk, with_batch};
 ghost use Rattle.redo_journal.specs.Meaning.{EachReadsAs, LeavesSameMap, IsMapped, SameMap, data_of, disk_of};
 ghost use Rattle.redo_journal.specs.States.{header_at, HasHeader, IsIdle};
 ghost use Rattle.sector_disk.specs.Disk.{IsSame, ForgetsPast, Elapses, HasCause, HasWriteCause};
-ghost use Rattle.sector_txn.specs.Images.{LeavesOldOr};
+ghost use Rattle.sector_txn.specs.Images.{LeavesOldOr, LogsAll};
+ghost use Rattle.sector_txn.specs.Stores.{all_waiting};
 ghost use Rattle.sector_txn.specs.Waits.{IsRead, Waits, EntriesHavePlaces, EntriesHaveRoom, with_waiting};
 
 use crate::clean::CleanSectors;
-use crate::commit::commit;
 use crate::waiting::Waiting;
 use fs_layout::Geometry;
-use redo_journal::{Batch, Broken, Journal, absorb_beside};
+use redo_journal::{Batch, Broken, Journal, absorb_beside, commit_beside};
 use sector_disk::{CrashDisk, Disk, DiskFault};
 use std::alloc::Global;
 use std::marker::Model;
@@ -166,9 +166,14 @@ impl<D: Disk> CachedJournal<D> {
         // A stop at any moment of the call leaves what means as before it, or reads with all that waits.
         ensures images { LeavesOldOr (with_waiting waiting.old (data_of (D.state self))) (D.state self) (D.state (disk_of result)) }
 
+        // Where the log has one area all that waits goes through it.
+        ensures alone { header_at (D.state self).seen ≡ 0
+            → LogsAll (all_waiting waiting.old.placed.value.entries waiting.old.logged.value.entries) (D.state self) (D.state (disk_of result)) }
+
         ensures cause { HasCause (D.state self) (D.state (disk_of result)) result }
         ensures told { HasWriteCause (D.state self) (D.state (disk_of result)) result }
     {
+        self.tell_ready();
         if waiting.is_empty() {
             return Ok(self);
         }
@@ -181,7 +186,7 @@ impl<D: Disk> CachedJournal<D> {
         } = self;
         clean.forget_all(waiting.placed.sectors());
         clean.forget_all(waiting.logged.sectors());
-        match commit(journal, &waiting.placed, &waiting.logged) {
+        match commit_beside(journal, &waiting.placed, &waiting.logged) {
             Ok(journal) => {
                 waiting.hand_over(&mut last);
                 let layout = journal.layout();

@@ -7,7 +7,7 @@ ghost use Rattle.fs_layout.specs.declared.header.TheConstants.{MAX_HEADER};
 ghost use Rattle.redo_journal.specs.Meaning.{SameMap, EachReadsAs, data_of, disk_of};
 ghost use Rattle.redo_journal.specs.States.{header_at, IsIdle};
 ghost use Rattle.sector_disk.specs.Disk.{IsSame, ForgetsPast, Elapses, HasCause, HasWriteCause};
-ghost use Rattle.sector_txn.specs.Images.{LeavesOneOf, LeavesOldOr};
+ghost use Rattle.sector_txn.specs.Images.{LeavesOneOf, LeavesOldOr, LogsAll};
 ghost use Rattle.sector_txn.specs.Stores.{present, map_before, map_now, txn_state, disk_after};
 ghost use Rattle.sector_txn.specs.Waits.{AreReserved};
 
@@ -139,6 +139,9 @@ impl<D: Disk> Store<D> {
         // A stop at any moment of the call leaves what means as before it, or reads as the store.
         ensures images { LeavesOldOr (present D.state self) (D.state self.disk) (D.state (disk_after result)) }
 
+        // On a disk whose log has one area all that waits goes through it: it leaves all of it or nothing, in free sectors too.
+        ensures alone { header_at (D.state self.disk).seen ≡ 0 → LogsAll self.waiting (D.state self.disk) (D.state (disk_after result)) }
+
         // From `Ok` on it leaves what reads as the store.
         ensures lasting { IfOk result (λ store. EachReadsAs (present D.state self) (D.state store.disk)) }
 
@@ -173,6 +176,9 @@ impl<D: Disk> Store<D> {
 
         // A stop at any moment of the call leaves what means as before it, or reads as the store.
         ensures images { LeavesOldOr (present D.state self) (D.state self.disk) (D.state (disk_of result)) }
+
+        // On a disk whose log has one area all that waits goes through it: it leaves all of it or nothing, in free sectors too.
+        ensures alone { header_at (D.state self.disk).seen ≡ 0 → LogsAll self.waiting (D.state self.disk) (D.state (disk_of result)) }
 
         // From `Ok` on it leaves what reads as the store.
         ensures lasting { IfOk result (λ disk. EachReadsAs (present D.state self) (D.state disk)) }
@@ -241,6 +247,9 @@ impl<D: Disk> Txn<D> {
         // A stop at any moment of the call leaves what means as before it, or reads as the store without the changes
         // or with all of them.
         ensures images { LeavesOneOf (map_before D.state self) (map_now D.state self) (D.state self.disk) (D.state (disk_after result)) }
+
+        // On a disk whose log has one area what is committed goes through it: it leaves all of it or nothing, in free sectors too.
+        ensures alone { header_at (D.state self.disk).seen ≡ 0 → LogsAll self.waiting (D.state self.disk) (D.state (disk_after result)) }
 
         // Without changes the disk isn't called.
         ensures empty { (txn_state D.state self).room ≡ max_delta (txn_state D.state self).header

@@ -6,7 +6,7 @@ use Rattle.redo_journal.specs.Meaning.{data_of}
 use Rattle.redo_journal.proofs.Causes.{cause_of_none, told_of_none}
 use Rattle.sector_txn.specs.Waits.{EntriesHavePlaces}
 use Rattle.sector_txn.proofs.Commits.{added_few, map_none}
-use Rattle.sector_txn.proofs.Images.{if_ok_each, nothing_left}
+use Rattle.sector_txn.proofs.Images.{if_ok_each, nothing_left, nothing_logs}
 use Rattle.sector_txn.proofs.commit.commit_if_full.Goals as goal
 
 pub returns-clause-due : goal.returns-clause-due
@@ -42,6 +42,9 @@ returns-then-fits-clause-same g c = λ n part. refl
 
 pub returns-then-fits-clause-images : goal.returns-then-fits-clause-images
 returns-then-fits-clause-images g c = nothing_left (g.met.D.Disk.only_now c.args.journal)
+
+pub returns-then-fits-clause-alone : goal.returns-then-fits-clause-alone
+returns-then-fits-clause-alone g c = nothing_logs c.requires.waits (g.met.D.Disk.only_now c.args.journal) c.tell_ready.ensures
 
 pub returns-then-fits-clause-empty : goal.returns-then-fits-clause-empty
 returns-then-fits-clause-empty g c = λ none. refl
@@ -87,6 +90,9 @@ returns-clause-header g c = c.commit.ensures.header
 
 pub returns-clause-images : goal.returns-clause-images
 returns-clause-images g c = c.commit.ensures.images
+
+pub returns-clause-alone : goal.returns-clause-alone
+returns-clause-alone g c = c.commit.ensures.alone
 
 pub returns-clause-empty : goal.returns-clause-empty
 returns-clause-empty g c = λ none. absurd (true≢false (sym (c.fits.ensures.empty none) ∙ c.if-fits.false))

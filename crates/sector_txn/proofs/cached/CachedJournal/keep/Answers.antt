@@ -40,7 +40,7 @@ returns-in-Some-clause-waits g c =
     let here = subst (λ (b : BatchView). IsWaiting disk b logged) (sym c.deref_mut.ensures.value) (subst (λ (b : BatchView). IsWaiting disk waiting.placed.value b) (sym c.deref_mut-in-Some.ensures.value) waits) in
     let done = c.absorb_beside.ensures in
     subst (λ d. IsWaiting (g.D.Disk.state d) c.absorb_beside.new.placed c.absorb_beside.new.logged) c.self.view_is
-    (kept_beside disk placed logged c.absorb_beside.new.placed c.absorb_beside.new.logged delta here there room done.spare done.beside done.few done.on_disk done.most.0 done.most.1)
+    (kept_beside disk placed logged c.absorb_beside.new.placed c.absorb_beside.new.logged delta here there room done.spare done.beside (λ header. let other : ⊥ = cc (sym (c.self.invariant.1.alone header) ∙ c.in-Some.is) in absurd other) done.few done.on_disk done.most.0 done.most.1)
 
 pub returns-in-Some-clause-map : goal.returns-in-Some-clause-map
 returns-in-Some-clause-map g c = λ f n.

@@ -5,7 +5,7 @@ use Rattle.redo_journal.specs.Meaning.{EachReadsAs, SameMap, data_of, disk_of}
 use Rattle.redo_journal.proofs.Meaning.{reads_same, same_chain}
 use Rattle.sector_txn.specs.Images.{LeavesOldOr}
 use Rattle.sector_txn.specs.Stores.{present}
-use Rattle.sector_txn.proofs.Images.{closed_left, if_ok_both, store_left}
+use Rattle.sector_txn.proofs.Images.{closed_left, if_ok_both, logs_closed, store_left, store_logs}
 use Rattle.sector_txn.proofs.store.Store.close.Goals as goal
 
 pub returns-clause-images : goal.returns-clause-images
@@ -19,6 +19,15 @@ returns-in-Ok-clause-images g c =
     let new = state (disk_of c.close.result) in
     subst (λ store. LeavesOldOr (present state store) (state store.disk) new) c.self.view_is
     (closed_left _ (state c.self.inside.journal) (state c.in-Ok.journal) new c.close.ensures.size c.in-Ok.ensures.changed c.in-Ok.ensures.images c.close.ensures.any_moment)
+
+pub returns-clause-alone : goal.returns-clause-alone
+returns-clause-alone g c = store_logs g.D.Disk.state c.self.view_is c.in-Err.ensures.alone
+
+pub returns-in-Ok-clause-alone : goal.returns-in-Ok-clause-alone
+returns-in-Ok-clause-alone g c =
+    let state = g.D.Disk.state in
+    store_logs state c.self.view_is
+    (λ header. logs_closed _ (state c.self.inside.journal) (state c.in-Ok.journal) (state (disk_of c.close.result)) c.in-Ok.ensures.images.size c.in-Ok.ensures.changed (c.in-Ok.ensures.alone header) c.close.ensures.any_moment)
 
 pub returns-in-Ok-clause-map : goal.returns-in-Ok-clause-map
 unfolding present

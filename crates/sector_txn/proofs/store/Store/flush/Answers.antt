@@ -7,7 +7,7 @@ use Rattle.redo_journal.specs.States.{header_at}
 use Rattle.redo_journal.proofs.Meaning.{reads_same}
 use Rattle.sector_txn.specs.Stores.{all_waiting, present}
 use Rattle.sector_txn.proofs.Commits.{map_none}
-use Rattle.sector_txn.proofs.Images.{store_left}
+use Rattle.sector_txn.proofs.Images.{store_left, store_logs}
 use Rattle.sector_txn.proofs.store.Store.flush.Goals as goal
 
 pub returns-in-Ok-clause-map : goal.returns-in-Ok-clause-map
@@ -27,6 +27,12 @@ returns-in-Ok-clause-images g c = store_left g.D.Disk.state c.self.view_is c.in-
 pub returns-in-Err-clause-images : goal.returns-in-Err-clause-images
 unfolding present
 returns-in-Err-clause-images g c = store_left g.D.Disk.state c.self.view_is c.in-Err.ensures.images
+
+pub returns-in-Ok-clause-alone : goal.returns-in-Ok-clause-alone
+returns-in-Ok-clause-alone g c = store_logs g.D.Disk.state c.self.view_is c.in-Ok.ensures.alone
+
+pub returns-in-Err-clause-alone : goal.returns-in-Err-clause-alone
+returns-in-Err-clause-alone g c = store_logs g.D.Disk.state c.self.view_is c.in-Err.ensures.alone
 
 pub returns-in-Ok-clause-lasting : goal.returns-in-Ok-clause-lasting
 unfolding present

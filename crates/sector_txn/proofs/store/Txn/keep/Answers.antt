@@ -4,12 +4,17 @@ use Rattle.redo_journal.specs.Batch.{BatchView, Entry, IsOnDisk, added, with_bat
 use Rattle.redo_journal.specs.States.{header_at}
 use Rattle.redo_journal.specs.Meaning.{data_of, SameMap}
 use Rattle.redo_journal.proofs.Meaning.{mapped_by, super_on_disk, with_batch_same}
-use Rattle.sector_txn.specs.Images.{LeavesOneOf}
+use Rattle.sector_txn.specs.Images.{LeavesOneOf, LogsAll}
 use Rattle.redo_journal.proofs.Causes.{cause_as, cause_at_err, cause_at_ok, told_as, told_at_err, told_at_ok}
 use Rattle.sector_disk.specs.Disk.{DiskState}
 use Rattle.sector_txn.specs.Stores.{IsTxn, TxnView, all_waiting, map_before, map_now, present}
 use Rattle.sector_txn.proofs.Images.{first_map}
 use Rattle.sector_txn.proofs.store.Txn.keep.Goals as goal
+
+-- what is committed first, as the transaction is seen
+logs : {D : Type 0} (state : D → DiskState) (new : DiskState) {inside seen : TxnView D} → inside ≡ seen → (header_at (state inside.disk).seen ≡ 0 → LogsAll inside.waiting (state inside.disk) new)
+    → header_at (state seen.disk).seen ≡ 0 → LogsAll seen.waiting (state seen.disk) new
+logs state new is run = subst (λ (t : TxnView _). header_at (state t.disk).seen ≡ 0 → LogsAll t.waiting (state t.disk) new) is run
 
 pub returns-in-Ok-clause-map : goal.returns-in-Ok-clause-map
 unfolding map_now map_before present
@@ -39,6 +44,12 @@ unfolding map_now map_before
 returns-in-Err-clause-images g c =
     let state = g.D.Disk.state in
     subst (λ txn. LeavesOneOf (map_before state txn) (map_now state txn) (state txn.disk) (state c.in-Err.broken)) c.self.view_is (first_map c.in-Err.ensures.images)
+
+pub returns-in-Ok-clause-alone : goal.returns-in-Ok-clause-alone
+returns-in-Ok-clause-alone g c = logs g.D.Disk.state (g.D.Disk.state c.in-Ok.journal) c.self.view_is c.in-Ok.ensures.alone
+
+pub returns-in-Err-clause-alone : goal.returns-in-Err-clause-alone
+returns-in-Err-clause-alone g c = logs g.D.Disk.state (g.D.Disk.state c.in-Err.broken) c.self.view_is c.in-Err.ensures.alone
 
 pub returns-in-Ok-clause-header : goal.returns-in-Ok-clause-header
 returns-in-Ok-clause-header g c =
