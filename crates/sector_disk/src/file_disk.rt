@@ -14,6 +14,7 @@ use crate::{Disk, DiskFault, DiskFile, MemDisk};
 use std::alloc::{AllocError, Global};
 use std::fs::{self, OpenOptions};
 use std::io::{self, ErrorKind};
+use std::os::unix::fs::OpenOptionsExt;
 use std::path::AsPath;
 use std::rt::Files;
 
@@ -246,7 +247,7 @@ fn has(memory: &MemDisk, n: u32, content: &[u8; 512]) -> bool
     }
 }
 
-// A new file of so many zeros, locked and synced.
+// A new file of so many zeros, locked and synced. It is its owner's alone from the start: whoever reads the image reads every file in it.
 fn new_file<R: Files<File: DiskFile>, P: AsPath>(
     rt: &R,
     path: P,
@@ -255,7 +256,7 @@ fn new_file<R: Files<File: DiskFile>, P: AsPath>(
     ensures { IfOk result (λ file. IfSome (R.File.held file) (HasStable (replicate sectors (replicate 512 0)))) }
 {
     let mut how = OpenOptions::new();
-    how.read(true).write(true).create_new(true);
+    how.read(true).write(true).create_new(true).mode(0o600);
     match how.open(rt, path.path_text()) {
         Ok(mut file) => {
             if prepare(&mut file, sectors).is_ok() {
