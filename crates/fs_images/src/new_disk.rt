@@ -3,7 +3,7 @@
 ghost use Rattle.std.specs.Prelude.{◌≡◌, ◌≤◌, ◌<◌, Some, None, Err, IfErr, IfSome, OnOk, MatchResult};
 ghost use Rattle.sector_disk.specs.Disk.{AddsOnly, HasCause, IsImageOr, IsStable, LeavesOnly, sector};
 ghost use Rattle.fs_layout.specs.Geometry.{IsGeometry, super_for, the_geometry};
-ghost use Rattle.fs_layout.specs.Superblock.{super_bytes};
+ghost use Rattle.fs_layout.specs.Superblock.{FitsVersion, super_bytes};
 ghost use Rattle.fs_images.specs.Making.{BehindSuperblock, HasNoSuperblock, HoldsNewTables, IsCleared, IsDeviceFault, IsHalfCleared, IsHalfDone, IsHalfMade, IsNewDisk, IsNewLayout, IsPrepared, mkfs_refusal};
 
 use crate::MkfsFault;
@@ -133,6 +133,7 @@ fn write_superblock<D: Disk>(disk: &mut D, geometry: Geometry) -> Result<(), Dis
 
 // The content of the superblock.
 fn superblock(geometry: Geometry) -> [u8; 512]
+    requires { FitsVersion (super_for geometry) }
     ensures { result ≡ super_bytes (super_for geometry) }
 {
     let mut content = [0; 512];

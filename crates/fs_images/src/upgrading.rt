@@ -86,6 +86,7 @@ fn read_superblock<D: Disk>(disk: &mut D) -> Result<Super, DiskFault>
 
 // The content of the superblock in the second version.
 fn raised(superblock: Super) -> [u8; 512]
+    requires { superblock.header ≡ 0 }
     ensures { result ≡ super_bytes (with_version Two superblock) }
 {
     let raised = Super {

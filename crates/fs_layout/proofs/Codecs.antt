@@ -4,6 +4,9 @@ use Rattle.std.proofs.lemmas.List.{take_all, drop_all, append-nil}
 use Rattle.std.specs.Prelude.{IfOk}
 use borrow.Rule.Slice.PartMut.{put_mid}
 use Rattle.fs_layout.specs.Bytes.{IsBytes, window}
+use Rattle.fs_layout.specs.Laws.{AreReadAgain}
+use Rattle.fs_layout.specs.declared.fault.LayoutFault.{LayoutFault}
+use Rattle.fs_layout.proofs.Splices.{window_same}
 use Rattle.fs_layout.proofs.Fields.{part_len, IsBytes-part}
 
 -- a test that has to hold, and held
@@ -64,6 +67,14 @@ pub reads_part : {V E : Type 0} (n : ℕ) {Fits : V → Type 0} {bytes : V → L
     → (s : List ℕ) (at k : ℕ) (r : Result V E) → k ≡ n → at + n ≤ length s → IsBytes s → r ≡ of (take k (drop at s)) → Reads Fits bytes of (window s at n) r
 reads_part n {of} law s at k r all room small e =
     reads n law (window s at n) r (part_len n at s room) (IsBytes-part n at s small) (e ∙ ap of (part s at k n all))
+
+-- a value that fits is read again from its bytes, and from wherever they are written
+pub are_read_again : {V : Type 0} (n : ℕ) {Fits : V → Type 0} {bytes : V → List ℕ} {of : List ℕ → Result V LayoutFault} → IsCodec n Fits bytes of
+    → ((v : V) → Fits v → length (bytes v) ≡ n) → AreReadAgain n Fits bytes of
+are_read_again n {bytes = bytes} {of} law size = record {
+  alone = law.again;
+  within = λ s at v room fits. ap of (window_same s (bytes v) at n (size v fits) room) ∙ law.again v fits;
+}
 
 -- bytes spell one value
 pub same_spelling : {V E : Type 0} (n : ℕ) (Fits : V → Type 0) (bytes : V → List ℕ) (of : List ℕ → Result V E) → IsCodec n Fits bytes of

@@ -2,6 +2,7 @@
 use Rattle.std.proofs.Common.{◌≡◌, ℕ, zero, suc, ◌+◌, ◌*◌, ◌<◌, ◌≤◌, Bool, true, false, cond, Option, Some, None, refl, sym, subst, arith, nat_le, nat_lt, not, ◌&&◌}
 use Rattle.std.proofs.lemmas.Bool.{and_parts, eqb-true, leb-true, le-leb, lt-leb, ltb-false}
 use Rattle.std.specs.Int.{div_ceil}
+use Rattle.std.specs.Prelude.{IfSome}
 use Rattle.fs_layout.specs.declared.header.TheConstants.{MAX_HEADER, LEAST_LOG_END}
 use Rattle.fs_layout.specs.declared.geometry.Geometry.{Geometry}
 use Rattle.fs_layout.specs.declared.geometry.TheConstants.{SECTOR_BITS}
@@ -9,7 +10,9 @@ use Rattle.fs_layout.specs.declared.version.Version.{Version}
 use Rattle.fs_layout.specs.declared.version.Version.TheVariants.{One, Two, Three}
 use Rattle.fs_layout.specs.Header.{log_end, max_delta}
 use Rattle.fs_layout.specs.Version.{max_sectors, max_inodes}
-use Rattle.fs_layout.specs.Geometry.{IsGeometry, allows_header, are_in_range, least_header, new_header, geometry_in, laid_out_in}
+use Rattle.fs_layout.specs.declared.superblock.Super.{Super}
+use Rattle.fs_layout.specs.Superblock.{FitsVersion, numbers_end}
+use Rattle.fs_layout.specs.Geometry.{IsGeometry, allows_header, are_in_range, least_header, new_header, geometry_for, geometry_in, laid_out_in, super_for}
 
 -- a disk of the third version may have the most sectors and inodes
 numbers_to : (version : Version) → (max_sectors version ≤ max_sectors Three) × (max_inodes version ≤ max_inodes Three)
@@ -157,6 +160,25 @@ laid_out_is_geometry version header s i p =
 -- a disk that has a geometry has room for its parts
 pub is_a_geometry : {p : Geometry} (version : Version) (header sectors inodes : ℕ) → geometry_in version header sectors inodes ≡ Some p → IsGeometry p
 is_a_geometry version header s i e = let x = placed s i e in subst IsGeometry (sym x.0) (laid_out_is_geometry version header s i x.1)
+
+-- so its superblock has a field for its header sectors, or there are none
+header_if : (version : Version) (header sectors inodes : ℕ) → allows_header version header sectors inodes ≡ true → numbers_end version ≡ 16 → header ≡ 0
+unfolding allows_header
+header_if One header sectors inodes allowed end = eqb-true header 0 allowed
+header_if Two header sectors inodes allowed end = eqb-true header 0 allowed
+header_if Three header sectors inodes allowed end = absurd (omega (arith, end))
+
+pub header_fits : {p : Geometry} (v : Super) → geometry_for v ≡ Some p → FitsVersion v
+header_fits v e = header_if v.version v.header v.sectors v.inodes (placed v.sectors v.inodes e).1.header_allowed
+
+pub layout_fits : {p : Geometry} (version : Version) (header sectors inodes : ℕ) → geometry_in version header sectors inodes ≡ Some p → FitsVersion (super_for p)
+layout_fits version header s i e =
+    let x = placed s i e in
+    subst (λ (q : Geometry). FitsVersion (super_for q)) (sym x.0) (header_if version header s i x.1.header_allowed)
+
+pub found_fits : (v : Super) (found : Option Geometry) → found ≡ geometry_for v → IfSome found (λ p. FitsVersion v)
+found_fits v None is = tt
+found_fits v (Some p) is = header_fits v (sym is)
 
 -- ---- from a geometry
 -- log, inode bitmap, block bitmap and inode table stand one behind the other

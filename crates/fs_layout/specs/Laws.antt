@@ -1,9 +1,10 @@
--- Laws that functions without a body prove: numbers as bytes, header sectors of new disks, what a recovered image is, what changing one inode
+-- Laws that functions without a body prove: numbers and structures as bytes, header sectors of new disks, what a recovered image is, what changing one inode
 -- leaves alone, and what maps, a directory's names and stored ACLs are.
-use Rattle.std.specs.Prelude.{ℕ, ◌+◌, ◌<◌, ◌≤◌, ◌^◌, ◌≡◌, ◌≢◌, List, length, map, get_or, Option, None, Some, Ok, All, Contains, ◌↔◌, true, false}
+use Rattle.std.specs.Prelude.{ℕ, ◌+◌, ◌<◌, ◌≤◌, ◌^◌, ◌≡◌, ◌≢◌, List, length, map, get_or, Option, None, Some, Result, Ok, All, Contains, ◌↔◌, true, false}
 use Rattle.std.specs.List.{range_with_len}
 use Rattle.std.specs.declared.cmp.Ordering.{Ordering}
 use Rattle.posix_acl.specs.AccessList.{AccessList, IsAcl, IsSomeAcl, list_numbers, mode_bits}
+use Rattle.fs_layout.specs.declared.fault.LayoutFault.{LayoutFault}
 use Rattle.fs_layout.specs.declared.inode.Inode.{Inode}
 use Rattle.fs_layout.specs.declared.geometry.Geometry.{Geometry}
 use Rattle.fs_layout.specs.declared.version.Version.{Version}
@@ -28,6 +29,11 @@ use Rattle.fs_layout.specs.AclSector.{acl_content, HoldsAcl, kept_acl}
 pub record AreNumbersAsBytes (n : ℕ) (bytes : ℕ → List ℕ) (number : List ℕ → ℕ → ℕ) : Type 0 where
   pub written : (s : List ℕ) (at : ℕ) → IsBytes s → at + n ≤ length s → bytes (number s at) ≡ window s at n
   pub read : (s : List ℕ) (at x : ℕ) → at + n ≤ length s → x < 256 ^ n → number (splice s at (bytes x)) at ≡ x
+
+-- Values that are written as n bytes: each that fits is read again, from these bytes alone and from wherever they are written.
+pub record AreReadAgain {V : Type 0} (n : ℕ) (Fits : V → Type 0) (bytes : V → List ℕ) (read : List ℕ → Result V LayoutFault) : Type 0 where
+  pub alone : (v : V) → Fits v → read (bytes v) ≡ Ok v
+  pub within : (s : List ℕ) (at : ℕ) (v : V) → at + n ≤ length s → Fits v → read (window (splice s at (bytes v)) at n) ≡ Ok v
 
 -- on a disk of so many sectors a target has its log sector's content, and each other sector its own
 pub record IsRecovery (size : ℕ) : Type 0 where

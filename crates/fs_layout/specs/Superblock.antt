@@ -22,12 +22,16 @@ numbers_end One = 16
 numbers_end Two = 16
 numbers_end Three = 20
 
+-- there are no header sectors where the version has no field for their number
+abbrev pub FitsVersion : Super → Type 0
+FitsVersion v = numbers_end v.version ≡ 16 → v.header ≡ 0
+
 -- the numbers fit their fields; without a field the number is 0
 pub record FitsSuper (v : Super) : Type 0 where
   pub sectors : v.sectors < 2 ^ 32
   pub inodes : v.inodes < 2 ^ 32
   pub header : v.header < 2 ^ 32
-  pub no_header : numbers_end v.version ≡ 16 → v.header ≡ 0
+  pub no_header : FitsVersion v
 
 abbrev pub super_if : Option Version → List ℕ → Result Super LayoutFault
 super_if None s = Err BadVersion

@@ -214,9 +214,10 @@ impl Commit {
         get_u32s(from, 0, &mut self.targets[start..start + HEADER_TARGETS]);
     }
 
-    /// Writes the sector; `at` is 0.
+    /// Writes the sector of a commit without a header, which has all targets; `at` is 0.
     pub fn write_to(&self, to: &mut [u8; 512], at: usize)
-        requires { at ≡ 0 }
+        requires whole { at ≡ 0 }
+        requires few { length self.now ≤ MAX_TARGETS }
         ensures { to.new ≡ commit_bytes self.now }
     {
         Commit::put(0, self.targets(), &mut to[at..at + 512]);
@@ -241,8 +242,9 @@ impl Commit {
         content
     }
 
-    /// The content of the commit sector.
+    /// The content of the commit sector of a commit without a header.
     pub fn to_sector(&self) -> [u8; 512]
+        requires { length self.now ≤ MAX_TARGETS }
         ensures { result ≡ commit_bytes self.now }
     {
         let mut content = [0; 512];

@@ -1,11 +1,18 @@
 //! Laws of the layout, each proved by a function that does nothing: its contract is the law.
 
 ghost use Rattle.fs_layout.specs.Bytes.{le16, le32, le64, u16_of, u32_of, u64_of};
+ghost use Rattle.fs_layout.specs.AclSector.{FitsAclSector, acl_sector_bytes, acl_sector_of};
+ghost use Rattle.fs_layout.specs.Commit.{FitsCommit, commit_bytes, commit_of};
+ghost use Rattle.fs_layout.specs.Directories.{FitsSlot, slot_bytes, slot_of};
+ghost use Rattle.fs_layout.specs.Inode.{FitsInode, FitsOlderInode, inode_bytes, inode_of, older_inode_of};
+ghost use Rattle.fs_layout.specs.Superblock.{FitsSuper, super_bytes, super_of};
+ghost use Rattle.fs_layout.specs.Version.{slot_size};
+ghost use Rattle.fs_layout.specs.declared.inode.TheConstants.{INODE_SIZE};
 ghost use Rattle.std.specs.Prelude.{ℕ};
 ghost use Rattle.std.specs.Ordering.{nat_cmp};
 ghost use Rattle.fs_layout.specs.Maps.{name_cmp};
 ghost use Rattle.fs_layout.specs.declared.version.Version.{Version};
-ghost use Rattle.fs_layout.specs.Laws.{AreNumbersAsBytes, NewHeadersAreAllowed, RecoversEach, OneInodeChanges, SavingEnds, RestsOnUsed, SomeConsistent, HaveEntries, SlotsHoldNames, SlotsHaveNames, OneMapOfNames, NamesAreRead, NamesStay, AclsHaveSectors, HoldsOneAcl, ModeTellsTheRest};
+ghost use Rattle.fs_layout.specs.Laws.{AreNumbersAsBytes, AreReadAgain, NewHeadersAreAllowed, RecoversEach, OneInodeChanges, SavingEnds, RestsOnUsed, SomeConsistent, HaveEntries, SlotsHoldNames, SlotsHaveNames, OneMapOfNames, NamesAreRead, NamesStay, AclsHaveSectors, HoldsOneAcl, ModeTellsTheRest};
 
 /// A number of 16 bits that is read from bytes is written as these bytes, and one that is written is read again.
 pub fn numbers_of_16_bits()
@@ -20,6 +27,17 @@ pub fn numbers_of_32_bits()
 /// A number of 64 bits that is read from bytes is written as these bytes, and one that is written is read again.
 pub fn numbers_of_64_bits()
     ensures { AreNumbersAsBytes 8 le64 u64_of }
+{}
+
+/// What is written is read: each value that fits its fields is read again from the bytes that it is written as. It is the same with an
+/// inode as of versions 1 and 2, which has no times, and with a slot of each version.
+pub fn what_is_written_is_read()
+    ensures superblock { AreReadAgain 512 FitsSuper super_bytes super_of }
+    ensures commit { AreReadAgain 512 FitsCommit commit_bytes commit_of }
+    ensures inode { AreReadAgain INODE_SIZE FitsInode inode_bytes inode_of }
+    ensures older_inode { AreReadAgain INODE_SIZE FitsOlderInode inode_bytes older_inode_of }
+    ensures slot { (version : Version) → AreReadAgain (slot_size version) (FitsSlot version) (slot_bytes version) (slot_of version) }
+    ensures acl_sector { AreReadAgain 512 FitsAclSector acl_sector_bytes acl_sector_of }
 {}
 
 /// With as many header sectors as [`crate::geometry_of`] gives a disk, a call that puts each sector of the bitmaps has room for 47 more:

@@ -29,6 +29,7 @@ pub use laws::{
     consistency_rests_on_used_sectors, maps_have_entries, names_fit_their_slots,
     numbers_of_16_bits, numbers_of_32_bits, numbers_of_64_bits, one_inode_changes, recovery,
     saving_ends, sectors_say_the_acls, slots_say_the_names, some_image_is_consistent,
+    what_is_written_is_read,
 };
 pub use slot::{MAX_NAME, MAX_SLOT_SIZE, SLOT_SIZE, Slot, is_name};
 pub use superblock::Super;

@@ -2,7 +2,7 @@
 
 ghost use Rattle.std.specs.Prelude.{◌≡◌, ◌≤◌, length, IfOk, IfSome, Ok};
 ghost use Rattle.fs_layout.specs.Geometry.{IsGeometry, super_for, geometry_for};
-ghost use Rattle.fs_layout.specs.Superblock.{super_bytes, super_of, numbers_end, FitsSuper};
+ghost use Rattle.fs_layout.specs.Superblock.{super_bytes, super_of, numbers_end, FitsSuper, FitsVersion};
 
 use crate::bytes::{are_zero, put_u32, put_zeros, u32_at};
 use crate::fault::LayoutFault;
@@ -55,6 +55,7 @@ impl Super {
     pub fn geometry(self) -> Option<Geometry>
         ensures value { result ≡ geometry_for self }
         ensures room { IfSome result IsGeometry }
+        ensures fits { IfSome result (λ geometry. FitsVersion self) }
     {
         geometry_in(self.version, self.header, self.sectors, self.inodes)
     }
@@ -96,9 +97,10 @@ impl Super {
         })
     }
 
-    /// Writes the sector; `at` is 0.
+    /// Writes the sector; `at` is 0. A version without a field for the number of header sectors has none of them.
     pub fn write_to(&self, to: &mut [u8; 512], at: usize)
-        requires { at ≡ 0 }
+        requires whole { at ≡ 0 }
+        requires fits { FitsVersion self.now }
         ensures { to.new ≡ super_bytes self.now }
     {
         self.put(&mut to[at..at + 512]);

@@ -1,5 +1,9 @@
 //! What the documents say of an image's bytes, and that each call succeeds.
 
+ghost use Rattle.std.specs.Prelude.{◌≤◌, length};
+ghost use Rattle.fs_layout.specs.declared.commit.TheConstants.{MAX_TARGETS};
+ghost use Rattle.fs_layout.specs.Superblock.{FitsVersion};
+
 use fs_layout::LayoutFault::{self, BadKind, BadMagic, BadNumber, BadVersion, NotZero};
 use fs_layout::{AclSector, Commit, Inode, Kind, Slot, Super, Version, is_name};
 use posix_acl::EntryNumbers;
@@ -166,13 +170,17 @@ fn sector_of(part: Part, bytes: &[u8]) -> [u8; 512] {
     sector
 }
 
-fn written_super(superblock: &Super) -> [u8; 512] {
+fn written_super(superblock: &Super) -> [u8; 512]
+    requires { FitsVersion superblock.now }
+{
     let mut sector = [0xff; 512];
     superblock.write_to(&mut sector, 0);
     sector
 }
 
-fn written_commit(commit: &Commit) -> [u8; 512] {
+fn written_commit(commit: &Commit) -> [u8; 512]
+    requires { length commit.now ≤ MAX_TARGETS }
+{
     let mut sector = [0xff; 512];
     commit.write_to(&mut sector, 0);
     sector

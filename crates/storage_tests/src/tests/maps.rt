@@ -1,6 +1,7 @@
 //! A map on a new disk in memory, and the ACLs of its inodes.
 
 ghost use Rattle.std.specs.Prelude.{◌≡◌, ◌≤◌, IfOk, IfSome};
+ghost use Rattle.fs_layout.specs.Superblock.{FitsVersion};
 ghost use Rattle.redo_journal.specs.States.{header_at};
 ghost use Rattle.blank_map.specs.Maps.{IsPlaced, IsWithoutInodes};
 
@@ -35,7 +36,9 @@ fn opened<D: Disk + Drop>(alloc: Global, disk: D, superblock: Super) -> Option<S
 }
 
 // A disk in memory, zeros but for this superblock and an idle commit sector.
-fn disk_of(alloc: Global, superblock: Super) -> Option<MemDisk> {
+fn disk_of(alloc: Global, superblock: Super) -> Option<MemDisk>
+    requires { FitsVersion superblock }
+{
     let mut disk = MemDisk::new(alloc, superblock.sectors).ok()?;
     if disk.size() < 2 {
         return None;

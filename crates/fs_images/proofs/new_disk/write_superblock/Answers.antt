@@ -1,7 +1,11 @@
 use Rattle.std.proofs.lemmas.Result.{on_ok_weaker}
 use Rattle.sector_disk.proofs.Moments.{weaker}
+use Rattle.fs_layout.proofs.Places.{layout_fits}
 use Rattle.fs_images.proofs.MakingMoments.{cleared_or_new, written_new}
 use Rattle.fs_images.proofs.new_disk.write_superblock.Goals as goal
+
+pub superblock-requires : goal.superblock-requires
+superblock-requires g c = layout_fits _ _ (g.D.Disk.state c.args.disk.now).size c.args.geometry.inodes c.requires.has_geometry
 
 pub returns-clause-made : goal.returns-clause-made
 returns-clause-made g c =

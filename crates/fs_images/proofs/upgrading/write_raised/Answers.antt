@@ -1,7 +1,7 @@
 use Rattle.std.proofs.Common.{arith, subst, ap, sym, ◌∙◌}
 use Rattle.std.specs.Prelude.{OnOk}
 use Rattle.fs_layout.specs.declared.version.Version.{Version}
-use Rattle.fs_layout.specs.Superblock.{super_bytes, with_version}
+use Rattle.fs_layout.specs.Superblock.{numbers_end, super_bytes, with_version}
 use Rattle.fs_images.specs.Upgrading.{raised, IsUpgraded}
 use Rattle.fs_images.proofs.Places.{some_sectors}
 use Rattle.fs_images.proofs.Raising.{written_moments, written_upgraded_if}
@@ -12,6 +12,9 @@ write_synced-requires g c =
     let some = some_sectors (g.D.Disk.state c.args.disk.now).seen c.requires.some.0 c.requires.some.1 c.requires.some.2 c.requires.some.3 in
     let size = (g.met.D.Disk.seen_is_image c.args.disk.now).size in
     omega (arith, some, size)
+
+pub raised-requires : goal.raised-requires
+raised-requires g c = c.requires.found.fits.no_header (ap numbers_end c.requires.version)
 
 pub returns-clause-any_moment : goal.returns-clause-any_moment
 returns-clause-any_moment g c =
