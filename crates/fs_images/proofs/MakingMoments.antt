@@ -10,11 +10,11 @@ use Rattle.fs_layout.specs.Commit.{commit_bytes}
 use Rattle.fs_layout.specs.declared.version.Version.{Version}
 use Rattle.fs_layout.specs.Geometry.{IsGeometry, new_header, super_for, the_geometry}
 use Rattle.fs_layout.specs.Superblock.{super_bytes}
-use Rattle.fs_layout.proofs.Places.{after_map, geometry_is_laid_out, is_a_geometry}
+use Rattle.fs_layout.proofs.Places.{after_map, before_data, geometry_is_laid_out, is_a_geometry}
 use Rattle.fs_model.specs.NewDisk.{empty_tree, IsNewImage}
 use Rattle.fs_model.specs.Stands.{room_of, Stands}
 use Rattle.fs_model.proofs.NewDiskStands.{new_disk_stands}
-use Rattle.fs_images.specs.Making.{BehindSuperblock, HasNoSuperblock, HoldsNewTables, IsCleared, IsNewDisk, IsPrepared}
+use Rattle.fs_images.specs.Making.{BehindSuperblock, HasNoSuperblock, HoldsNewTables, IsCleared, IsNewDisk, IsPrepared, KeepsBehind, KeepsBesideTables, KeepsRest}
 use Rattle.fs_images.specs.NewTables.{IsNewTable}
 use Rattle.fs_images.proofs.MakingTables.{new_image}
 
@@ -87,6 +87,44 @@ table_more p old new n content fits put is so_far s ge lt = elim (cases_eq s n) 
 pub same_beside : (old new : Image) (n k : ℕ) (content : List ℕ) → new ≡ set old n content → k ≢ n → sector new k ≡ sector old k
 same_beside old new n k content put ne = ap (λ (i : Image). sector i k) put ∙ get_or-set_other old n k content [] ne
 
+-- ---- what stays as it was
+-- each sector but the superblock, which is written
+pub behind_kept : (old new : Image) (content : List ℕ) → new ≡ set old 0 content → KeepsBehind old new
+behind_kept old new content put n some = same_beside old new 0 n content put (λ e. omega (arith, e, some))
+
+-- one sector of the tables more
+pub beside_tables_kept : (p : Geometry) (first old new : Image) (n : ℕ) (content : List ℕ) → p.inode_bitmap ≤ n → n < p.first_data → new ≡ set old n content
+    → KeepsBesideTables p first old → KeepsBesideTables p first new
+beside_tables_kept p first old new n content from to put so_far = record {
+  before_tables = λ k lt. same_beside old new n k content put (λ e. omega (arith, e, lt, from)) ∙ so_far.before_tables k lt;
+  data_sectors = λ k ge. same_beside old new n k content put (λ e. omega (arith, e, ge, to)) ∙ so_far.data_sectors k ge;
+}
+
+-- the commit and the tables are written
+pub rest_kept : (p : Geometry) (old idle tables new : Image) (content : List ℕ) → IsGeometry p → idle ≡ set old 1 content → KeepsBesideTables p idle tables
+    → new ≡ tables → KeepsRest p old new
+rest_kept p old idle tables new content geometry put beside same =
+    let front = after_map geometry in
+    let end = before_data geometry in
+    record {
+      log = λ n from to.
+          ap (λ (i : Image). sector i n) same ∙ beside.before_tables n to ∙ same_beside old idle 1 n content put (λ e. omega (arith, e, from));
+      data_sectors = λ n from.
+          ap (λ (i : Image). sector i n) same ∙ beside.data_sectors n from ∙ same_beside old idle 1 n content put (λ e. omega (arith, e, from, front, end));
+    }
+
+-- and the superblock before and behind that
+pub all_rest_kept : (p : Geometry) (old cleared prepared new : Image) → IsGeometry p → KeepsBehind old cleared → KeepsRest p cleared prepared
+    → KeepsBehind prepared new → KeepsRest p old new
+all_rest_kept p old cleared prepared new geometry first second last =
+    let front = after_map geometry in
+    let end = before_data geometry in
+    record {
+      log = λ n from to. let some : 0 < n = omega (arith, from) in last n some ∙ second.log n from to ∙ first n some;
+      data_sectors = λ n from. let some : 0 < n = omega (arith, from, front, end) in last n some ∙ second.data_sectors n from ∙ first n some;
+    }
+
+-- ---- what was asked for
 -- the geometry of a disk has its size
 pub geometry_size : (version : Version) (size inodes : ℕ) (p : Geometry) → the_geometry version size inodes ≡ Some p → p.sectors ≡ size
 geometry_size version size inodes p e = ap (λ (q : Geometry). q.sectors) (geometry_is_laid_out size inodes e)

@@ -5,10 +5,13 @@
 --     IsNewDisk        the image of a new disk
 --     HasNoSuperblock, IsHalfCleared, IsHalfDone, IsHalfMade        what a stop may leave meanwhile
 --     BehindSuperblock        what the steps may write, and where
+--     KeepsBehind, KeepsBesideTables        what a step leaves as it was
+--     KeepsRest, KeepsLogAndData        log and data are left as they were
 --     HoldsNewTables, IsCleared, IsPrepared        the disk after each step
 use Rattle.std.specs.Prelude.{◌≡◌, ◌⊎◌, ℕ, ◌+◌, ◌-◌, ◌<◌, ◌≤◌, Bool, nat_lt, ◌||◌, List, [], length, Option, Some, None, if◌then◌else◌}
 use Rattle.sector_disk.specs.Disk.{DiskState, Image, sector, HasFailed, IsImage, IsStable}
 use Rattle.fs_layout.specs.declared.geometry.Geometry.{Geometry}
+use Rattle.fs_layout.specs.declared.geometry.TheConstants.{FIRST_LOG_SECTOR}
 use Rattle.fs_layout.specs.declared.version.Version.{Version}
 use Rattle.fs_layout.specs.Version.{max_sectors, max_inodes}
 use Rattle.fs_layout.specs.Bytes.{zeros}
@@ -67,6 +70,25 @@ IsHalfMade before version inodes image = IsImage before image ⊎ IsHalfDone ver
 -- any content in any sector but the first
 abbrev pub BehindSuperblock : ℕ → List ℕ → Type 0
 BehindSuperblock n content = 0 < n
+
+-- ---- what stays as it was
+-- each sector but the superblock
+abbrev pub KeepsBehind : Image → Image → Type 0
+KeepsBehind before now = (n : ℕ) → 0 < n → sector now n ≡ sector before n
+
+-- each sector but those of the bitmaps and the inode table
+pub record KeepsBesideTables (p : Geometry) (before now : Image) : Type 0 where
+  pub before_tables : (n : ℕ) → n < p.inode_bitmap → sector now n ≡ sector before n
+  pub data_sectors : (n : ℕ) → p.first_data ≤ n → sector now n ≡ sector before n
+
+-- each sector of the log, and each data sector
+pub record KeepsRest (p : Geometry) (before now : Image) : Type 0 where
+  pub log : (n : ℕ) → FIRST_LOG_SECTOR ≤ n → n < p.inode_bitmap → sector now n ≡ sector before n
+  pub data_sectors : (n : ℕ) → p.first_data ≤ n → sector now n ≡ sector before n
+
+-- those of the new disk that is made of a disk: where they were zeros, they are zeros
+abbrev pub KeepsLogAndData : Version → ℕ → DiskState → DiskState → Type 0
+KeepsLogAndData version inodes before now = (p : Geometry) → the_geometry version before.size inodes ≡ Some p → KeepsRest p before.seen now.seen
 
 -- ---- the disk after each step
 -- bitmaps and inode table are those of a new disk

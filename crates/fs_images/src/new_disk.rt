@@ -1,10 +1,10 @@
 //! Making a new file system.
 
 ghost use Rattle.std.specs.Prelude.{◌≡◌, ◌≤◌, ◌<◌, Some, None, Err, IfErr, IfSome, OnOk, MatchResult};
-ghost use Rattle.sector_disk.specs.Disk.{AddsOnly, HasCause, IsImageOr, IsStable, LeavesOnly, sector};
+ghost use Rattle.sector_disk.specs.Disk.{AddsOnly, HasCause, IsImageOr, IsStable, LeavesOnly};
 ghost use Rattle.fs_layout.specs.Geometry.{IsGeometry, super_for, the_geometry};
 ghost use Rattle.fs_layout.specs.Superblock.{FitsVersion, super_bytes};
-ghost use Rattle.fs_images.specs.Making.{BehindSuperblock, HasNoSuperblock, HoldsNewTables, IsCleared, IsDeviceFault, IsHalfCleared, IsHalfDone, IsHalfMade, IsNewDisk, IsNewLayout, IsPrepared, mkfs_refusal};
+ghost use Rattle.fs_images.specs.Making.{BehindSuperblock, HasNoSuperblock, HoldsNewTables, IsCleared, IsDeviceFault, IsHalfCleared, IsHalfDone, IsHalfMade, IsNewDisk, IsNewLayout, IsPrepared, KeepsBehind, KeepsBesideTables, KeepsLogAndData, KeepsRest, mkfs_refusal};
 
 use crate::MkfsFault;
 use crate::new_tables::table_sector;
@@ -32,7 +32,7 @@ pub fn newest_layout(sectors: u32, inodes: u32) -> Option<Geometry>
 /// Makes a file system of this version with so many inodes on the disk, whose root is an empty directory of user 0, 0755.
 ///
 /// The superblock is cleared first and written last, with a sync after each step: a disk on which this was stopped
-/// halfway has none, and isn't taken for a file system. The log stays as it is.
+/// halfway has none, and isn't taken for a file system. Log and data stay as they are: of a disk of zeros they are zeros.
 pub fn mkfs<D: Disk>(disk: &mut D, version: Version, inodes: u32) -> Result<(), MkfsFault>
     // The first refusal in order; the disk isn't touched.
     ensures refused { (f : MkfsFault) → mkfs_refusal version (D.state disk.old).size inodes ≡ Some f
@@ -40,6 +40,7 @@ pub fn mkfs<D: Disk>(disk: &mut D, version: Version, inodes: u32) -> Result<(), 
     ensures fault { mkfs_refusal version (D.state disk.old).size inodes ≡ None
         → IfErr result (IsDeviceFault (D.state disk.old) (D.state disk.new)) }
     ensures made { OnOk result (IsNewDisk version inodes (D.state disk.new).seen) }
+    ensures kept { OnOk result (KeepsLogAndData version inodes (D.state disk.old) (D.state disk.new)) }
     ensures stable { OnOk result (IsStable (D.state disk.new)) }
     ensures any_moment { LeavesOnly (D.state disk.old) (D.state disk.new) (IsHalfMade (D.state disk.old) version inodes) }
     ensures size { (D.state disk.new).size ≡ (D.state disk.old).size }
@@ -68,6 +69,7 @@ fn geometry_for(version: Version, sectors: u32, inodes: u32) -> Result<Geometry,
 fn write_all<D: Disk>(disk: &mut D, geometry: Geometry) -> Result<(), DiskFault>
     requires { the_geometry geometry.version (D.state disk.old).size geometry.inodes ≡ Some geometry }
     ensures made { OnOk result (IsNewDisk geometry.version geometry.inodes (D.state disk.new).seen) }
+    ensures kept { OnOk result (KeepsRest geometry (D.state disk.old).seen (D.state disk.new).seen) }
     ensures stable { OnOk result (IsStable (D.state disk.new)) }
     ensures any_moment { LeavesOnly (D.state disk.old) (D.state disk.new) (IsHalfMade (D.state disk.old) geometry.version geometry.inodes) }
     ensures size { (D.state disk.new).size ≡ (D.state disk.old).size }
@@ -82,6 +84,7 @@ fn write_all<D: Disk>(disk: &mut D, geometry: Geometry) -> Result<(), DiskFault>
 fn clear_superblock<D: Disk>(disk: &mut D) -> Result<(), DiskFault>
     requires { 0 < (D.state disk.old).size }
     ensures cleared { OnOk result (IsCleared (D.state disk.new)) }
+    ensures kept { OnOk result (KeepsBehind (D.state disk.old).seen (D.state disk.new).seen) }
     ensures any_moment { LeavesOnly (D.state disk.old) (D.state disk.new) (IsHalfCleared (D.state disk.old)) }
     ensures size { (D.state disk.new).size ≡ (D.state disk.old).size }
     ensures cause { HasCause (D.state disk.old) (D.state disk.new) result }
@@ -94,6 +97,7 @@ fn prepare<D: Disk>(disk: &mut D, geometry: Geometry) -> Result<(), DiskFault>
     requires cleared { IsCleared (D.state disk.old) }
     requires geometry { the_geometry geometry.version (D.state disk.old).size geometry.inodes ≡ Some geometry }
     ensures prepared { OnOk result (IsPrepared geometry (D.state disk.new)) }
+    ensures kept { OnOk result (KeepsRest geometry (D.state disk.old).seen (D.state disk.new).seen) }
     ensures any_moment { LeavesOnly (D.state disk.old) (D.state disk.new) HasNoSuperblock }
     ensures size { (D.state disk.new).size ≡ (D.state disk.old).size }
     ensures cause { HasCause (D.state disk.old) (D.state disk.new) result }
@@ -108,7 +112,7 @@ fn write_tables<D: Disk>(disk: &mut D, geometry: Geometry) -> Result<(), DiskFau
     requires geometry { IsGeometry geometry }
     requires room { geometry.first_data ≤ (D.state disk.old).size }
     ensures written { OnOk result (HoldsNewTables geometry (D.state disk.new).seen) }
-    ensures commit { OnOk result (sector (D.state disk.new).seen 1 ≡ sector (D.state disk.old).seen 1) }
+    ensures kept { OnOk result (KeepsBesideTables geometry (D.state disk.old).seen (D.state disk.new).seen) }
     ensures adds { AddsOnly BehindSuperblock (D.state disk.old) (D.state disk.new) }
     ensures any_moment { LeavesOnly (D.state disk.old) (D.state disk.new) (IsImageOr BehindSuperblock (D.state disk.old)) }
     ensures cause { HasCause (D.state disk.old) (D.state disk.new) result }
@@ -123,6 +127,7 @@ fn write_tables<D: Disk>(disk: &mut D, geometry: Geometry) -> Result<(), DiskFau
 fn write_superblock<D: Disk>(disk: &mut D, geometry: Geometry) -> Result<(), DiskFault>
     requires { IsPrepared geometry (D.state disk.old) }
     ensures made { OnOk result (IsNewDisk geometry.version geometry.inodes (D.state disk.new).seen) }
+    ensures kept { OnOk result (KeepsBehind (D.state disk.old).seen (D.state disk.new).seen) }
     ensures stable { OnOk result (IsStable (D.state disk.new)) }
     ensures any_moment { LeavesOnly (D.state disk.old) (D.state disk.new) (IsHalfDone geometry.version geometry.inodes) }
     ensures size { (D.state disk.new).size ≡ (D.state disk.old).size }

@@ -3,9 +3,9 @@ use Rattle.std.proofs.lemmas.Result.{on_ok_weaker}
 use Rattle.sector_disk.specs.Disk.{Image, sector}
 use Rattle.sector_disk.proofs.Moments.{adds_narrowed, goes_on, image_or}
 use Rattle.fs_layout.specs.Commit.{commit_bytes}
-use Rattle.fs_layout.proofs.Places.{is_a_geometry}
+use Rattle.fs_layout.proofs.Places.{after_map, is_a_geometry}
 use Rattle.fs_images.specs.Making.{HoldsNewTables}
-use Rattle.fs_images.proofs.MakingMoments.{adds_joined, adds_one, leaves_none, leaves_none_then, geometry_on_disk, prepared, still_cleared}
+use Rattle.fs_images.proofs.MakingMoments.{adds_joined, adds_one, leaves_none, leaves_none_then, geometry_on_disk, prepared, rest_kept, still_cleared}
 use Rattle.fs_images.proofs.new_disk.prepare.Goals as goal
 
 pub write-requires : goal.write-requires
@@ -32,12 +32,13 @@ returns-clause-prepared g c =
     let after = g.D.Disk.state c.sync.new.self in
     let seen = c.sync.ensures.changes.seen in
     let all = adds_narrowed (adds_joined (adds_one (omega arith) c.write.ensures.changes) c.write_tables.ensures.adds) c.sync.ensures.changes in
+    let front = (after_map (is_a_geometry _ _ _ c.args.geometry.inodes c.requires.geometry)).0 in
     let room : 1 < length before.seen = omega (arith, (geometry_on_disk _ _ c.args.geometry.inodes c.args.geometry c.requires.geometry).least, c.requires.cleared.whole) in
     let commit : sector written.seen 1 ≡ commit_bytes [] =
     ap (λ (i : Image). sector i 1) c.in_ok-write.ensures.written.seen ∙ get_or-set_same before.seen 1 c.to_sector.result [] room ∙ c.to_sector.ensures ∙ ap commit_bytes c.idle.ensures in
     on_ok_weaker c.sync.result
     (prepared c.args.geometry before after c.requires.geometry c.requires.cleared all (g.met.D.Disk.seen_is_image c.sync.new.self)
-    (ap (λ (i : Image). sector i 1) seen ∙ c.in_ok-write_tables.ensures.commit ∙ commit)
+    (ap (λ (i : Image). sector i 1) seen ∙ c.in_ok-write_tables.ensures.kept.before_tables 1 (omega (arith, front)) ∙ commit)
     (subst (HoldsNewTables c.args.geometry) (sym seen) c.in_ok-write_tables.ensures.written))
     c.sync.ensures.stable
 
@@ -52,3 +53,11 @@ returns-in_err-write_tables-clause-any_moment g c =
 
 pub returns-clause-size : goal.returns-clause-size
 returns-clause-size g c = c.sync.ensures.changes.size ∙ c.write_tables.ensures.adds.size ∙ c.write.ensures.changes.size
+
+pub returns-clause-kept : goal.returns-clause-kept
+returns-clause-kept g c =
+    on_ok_weaker c.sync.result
+    (λ stable. rest_kept c.args.geometry (g.D.Disk.state c.args.disk.now).seen (g.D.Disk.state c.write.new.self).seen (g.D.Disk.state c.write_tables.new.disk).seen
+    (g.D.Disk.state c.sync.new.self).seen c.to_sector.result (is_a_geometry _ _ _ c.args.geometry.inodes c.requires.geometry)
+    c.in_ok-write.ensures.written.seen c.in_ok-write_tables.ensures.kept c.sync.ensures.changes.seen)
+    c.sync.ensures.stable

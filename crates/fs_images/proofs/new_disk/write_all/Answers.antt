@@ -1,10 +1,12 @@
 use Rattle.std.proofs.Common.{ℕ, inl, inr, arith, ◌∙◌}
+use Rattle.std.proofs.lemmas.Result.{on_ok_weaker}
+use Rattle.fs_layout.proofs.Places.{is_a_geometry}
 use Rattle.sector_disk.specs.Disk.{DiskState, Image, LeavesOnly}
 use Rattle.sector_disk.proofs.Moments.{joined, weaker}
 use Rattle.fs_layout.specs.declared.version.Version.{Version}
 use Rattle.fs_images.specs.Making.{HasNoSuperblock, IsHalfCleared, IsHalfDone, IsHalfMade}
 use Rattle.fs_images.proofs.Causes.{first_cause, later_cause}
-use Rattle.fs_images.proofs.MakingMoments.{geometry_on_disk}
+use Rattle.fs_images.proofs.MakingMoments.{all_rest_kept, geometry_on_disk}
 use Rattle.fs_images.proofs.new_disk.write_all.Goals as goal
 
 pub clear_superblock-requires : goal.clear_superblock-requires
@@ -55,3 +57,11 @@ returns-in_err-prepare-clause-size g c = c.prepare.ensures.size ∙ c.clear_supe
 
 pub returns-clause-size : goal.returns-clause-size
 returns-clause-size g c = c.write_superblock.ensures.size ∙ c.prepare.ensures.size ∙ c.clear_superblock.ensures.size
+
+pub returns-clause-kept : goal.returns-clause-kept
+returns-clause-kept g c =
+    on_ok_weaker c.write_superblock.result
+    (all_rest_kept c.args.geometry (g.D.Disk.state c.args.disk.now).seen (g.D.Disk.state c.clear_superblock.new.disk).seen (g.D.Disk.state c.prepare.new.disk).seen
+    (g.D.Disk.state c.write_superblock.new.disk).seen (is_a_geometry _ _ _ c.args.geometry.inodes c.requires) c.in_ok-clear_superblock.ensures.kept
+    c.in_ok-prepare.ensures.kept)
+    c.write_superblock.ensures.kept

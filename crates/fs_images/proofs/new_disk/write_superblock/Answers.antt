@@ -1,7 +1,7 @@
 use Rattle.std.proofs.lemmas.Result.{on_ok_weaker}
 use Rattle.sector_disk.proofs.Moments.{weaker}
 use Rattle.fs_layout.proofs.Places.{layout_fits}
-use Rattle.fs_images.proofs.MakingMoments.{cleared_or_new, written_new}
+use Rattle.fs_images.proofs.MakingMoments.{behind_kept, cleared_or_new, written_new}
 use Rattle.fs_images.proofs.new_disk.write_superblock.Goals as goal
 
 pub superblock-requires : goal.superblock-requires
@@ -16,3 +16,9 @@ returns-clause-made g c =
 pub returns-clause-any_moment : goal.returns-clause-any_moment
 returns-clause-any_moment g c =
     weaker (cleared_or_new c.args.geometry (g.D.Disk.state c.args.disk.now) c.superblock.result c.requires c.superblock.ensures) c.write_synced.ensures.any_moment
+
+pub returns-clause-kept : goal.returns-clause-kept
+returns-clause-kept g c =
+    on_ok_weaker c.write_synced.result
+    (behind_kept (g.D.Disk.state c.args.disk.now).seen (g.D.Disk.state c.write_synced.new.disk).seen c.superblock.result)
+    c.write_synced.ensures.written

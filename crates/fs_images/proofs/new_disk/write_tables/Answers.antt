@@ -1,7 +1,7 @@
 use Rattle.std.proofs.Common.{◌≡◌, ◌<◌, ◌≤◌, ◌∙◌, length, arith}
 use Rattle.sector_disk.proofs.Moments.{adds_write, goes_on, image_or}
 use Rattle.fs_layout.proofs.Places.{after_map}
-use Rattle.fs_images.proofs.MakingMoments.{same_beside, table_more}
+use Rattle.fs_images.proofs.MakingMoments.{beside_tables_kept, table_more}
 use Rattle.fs_images.proofs.Causes.{later_cause}
 use Rattle.fs_images.proofs.new_disk.write_tables.Goals as goal
 
@@ -19,7 +19,8 @@ loop-n-preserved g c =
     let adds = adds_write so_far.adds c.write.ensures.changes (λ k content is same. omega (arith, is, from)) in
     record {
       written = table_more c.args.geometry last.seen after.seen n c.table_sector.result fits put c.table_sector.ensures so_far.written;
-      commit = same_beside last.seen after.seen n 1 c.table_sector.result put (λ e. omega (arith, e, from)) ∙ so_far.commit;
+      kept = beside_tables_kept c.args.geometry (g.D.Disk.state c.args.disk.now).seen last.seen after.seen n c.table_sector.result c.loop-n.auto.n c.loop-n-test.true put
+          so_far.kept;
       adds = adds;
       since = goes_on so_far.since c.write.ensures.time (image_or adds);
       failures = omega (arith, so_far.failures, c.write.ensures.cause.later);
