@@ -2,6 +2,7 @@
 
 use crate::tests::disks::{Call, first_byte, four_calls};
 use sector_disk::{Disk, DiskFile, FileDisk, FileFault, PartDisk, PartFile, Tail};
+use std::alloc::Global;
 use std::cell::Cell;
 use std::fs::{self, File, OpenOptions};
 use std::io::{self, ErrorKind};
@@ -68,10 +69,10 @@ fn scratch(rt: &HostRuntime, what: &str) -> Option<PathBuf> {
 }
 
 // How many sectors a disk has, and the first byte of each of the first three.
-type Seen = (u32, [u8; 3]);
+pub(super) type Seen = (u32, [u8; 3]);
 
 // A sector that can't be read counts as 255.
-fn see<D: Disk>(disk: &mut D) -> Seen {
+pub(super) fn see<D: Disk>(disk: &mut D) -> Seen {
     let bytes = [
         first_byte(disk, 0).unwrap_or(255),
         first_byte(disk, 1).unwrap_or(255),
@@ -405,7 +406,7 @@ fn neighbours_are_written_in_one_call(rt: HostRuntime) {
 // ---- files of which some sectors are loaded
 
 // What is loaded of a file: so many sectors from one on, those of these numbers, or what is asked for of some.
-enum Load {
+pub(super) enum Load {
     Run(u32, u32),
     Each(&'static [u32]),
     Tails(&'static [Tail]),
@@ -413,12 +414,16 @@ enum Load {
 
 // What reads of the disk of the loaded sectors give, which calls of it pass, and how many have failed, the reads among them; and what
 // reads give of the disk in the file, once it is loaded whole.
-type Parted = Result<(Seen, [bool; 4], u64, Seen), FileFault>;
+pub(super) type Parted = Result<(Seen, [bool; 4], u64, Seen), FileFault>;
 
 const CHANGES: [Call; 4] = [Call::Write(0, 9), Call::Sync, Call::Write(2, 9), Call::Sync];
 
-fn load_part(rt: &HostRuntime, path: Path<'_>, load: &Load) -> Parted {
-    let mut part = PartFile::open(rt, rt.alloc(), path)?;
+pub(super) fn load_part<F: DiskFile + Drop>(
+    alloc: Global,
+    part: PartFile<F>,
+    load: &Load,
+) -> Parted {
+    let mut part = part;
     match load {
         Load::Run(first, count) => part.load(*first, *count)?,
         Load::Each(numbers) => part.load_each(numbers)?,
@@ -428,7 +433,7 @@ fn load_part(rt: &HostRuntime, path: Path<'_>, load: &Load) -> Parted {
     let seen = see(&mut disk);
     let passed = four_calls(&mut disk, CHANGES);
     let failures = disk.failures();
-    let mut whole = FileDisk::over_large(rt.alloc(), disk.into_file())?;
+    let mut whole = FileDisk::over_large(alloc, disk.into_file())?;
     Ok((seen, passed, failures, see(&mut whole)))
 }
 
@@ -436,7 +441,7 @@ fn load_part(rt: &HostRuntime, path: Path<'_>, load: &Load) -> Parted {
 fn load_part_of_three(rt: &HostRuntime, path: Path<'_>, load: &Load) -> Parted {
     let _ = sevens(rt, path)?;
     let _ = written(rt, path)?;
-    load_part(rt, path, load)
+    load_part(rt.alloc(), PartFile::open(rt, rt.alloc(), path)?, load)
 }
 
 fn load_at_scratch(rt: &HostRuntime, load: &Load) -> Option<Parted> {
@@ -447,7 +452,7 @@ fn load_at_scratch(rt: &HostRuntime, load: &Load) -> Option<Parted> {
 }
 
 // What is loaded; then what can be read, and how many calls fail. A sector behind the end of the file is left out.
-static LOADS: [(Load, [u8; 3], u64); 14] = [
+pub(super) static LOADS: [(Load, [u8; 3], u64); 14] = [
     (Load::Run(0, 0), [255, 255, 255], 7),
     (Load::Run(0, 1), [7, 255, 255], 6),
     (Load::Run(1, 2), [255, 1, 3], 5),
@@ -500,7 +505,7 @@ fn refused_beside_part_at_scratch(rt: &HostRuntime) -> Option<Result<bool, FileF
     Some(seen)
 }
 
-fn parted_as(bytes: [u8; 3], failures: u64) -> Parted {
+pub(super) fn parted_as(bytes: [u8; 3], failures: u64) -> Parted {
     Ok(((3, bytes), [false; 4], failures, (3, [7, 1, 3])))
 }
 
