@@ -39,6 +39,7 @@ pub mod PlacedClosings
 pub mod PlacedMoves
 pub mod PlacedNames
 pub mod PlacedNodes
+pub mod Readings
 pub mod ReadsLess
 pub mod Rests
 pub mod Rewrites

@@ -2,7 +2,7 @@
 --     node_at-restamped, names_of-restamped, parent-restamped, sectors-restamped, stood, stands        what is seen of it
 --     touched_is_tree, touched_is_state, free-touched, there-touched, seen-touched        where the times of several nodes move
 --     touched-append        some, and then others
---     none_touched, untouched_stays, absent_stays        where no time moves
+--     none_touched, untouched_stays, none_moves, absent_stays        where no time moves
 use Rattle.std.specs.Prelude.{◌≡◌, ℕ, ◌+◌, ◌-◌, ◌^◌, ◌<◌, ◌≤◌, ◌==◌, ◌≢◌, nat_lt, Bool, true, false, ◌&&◌, cond, if◌then◌else◌, List, [], ◌∷◌, ◌++◌, Option, None, Some, is_some, sum_by, IsTrue}
 use Rattle.std.proofs.Common.{refl, sym, ap, ◌∙◌, subst}
 use Rattle.std.specs.Option.{option_map}
@@ -228,6 +228,14 @@ untouched_stays now n (e ∷ t) =
   where
     go : (b : Bool) → cond b e.1.stamps e.1.stamps ≡ e.1.stamps
     go true = refl
+    go false = refl
+
+-- of a node that is rewritten with the times that it is to have no time moves
+pub none_moves : (room : Room) (t : Tree) (now n : ℕ) (node : Node) (u : Tree) → touched now (touches room t (Rewrite Untouched n node)) u ≡ u
+none_moves room t now n node u = go room.keeps_times
+  where
+    go : (b : Bool) → touched now (cond b ((n, Untouched) ∷ []) []) u ≡ u
+    go true = untouched_stays now n u
     go false = refl
 
 pub absent_stays : (now : ℕ) (touch : ℕ × Touch) (t : Tree) → node_at t touch.0 ≡ None → restamped (touch_one now touch) t ≡ t

@@ -1,5 +1,5 @@
 -- What a step that changes little leaves as it was.
-use Rattle.std.specs.Prelude.{◌≡◌, ◌≢◌, ℕ, ◌+◌, ◌==◌, Bool, true, false, not, ◌||◌, cond, [], ◌∷◌, length, Some, is_some, IsTrue}
+use Rattle.std.specs.Prelude.{◌≡◌, ◌≢◌, ℕ, ◌+◌, ◌==◌, Bool, true, false, not, ◌||◌, cond, List, [], ◌∷◌, length, Some, is_some, IsTrue}
 use Rattle.std.proofs.Common.{refl, sym, ap, arith, ◌∙◌, inl, inr}
 use Rattle.std.proofs.lemmas.Bool.{cases_eq}
 use Rattle.std.proofs.lemmas.Bool.Decides.{nat_tests}
@@ -71,16 +71,20 @@ open_stays room t old new is fits still =
 pub nothing_to_drop : (room : Room) (t : Tree) (processes : ProcessTable) → IsTree room t → FitsTree t processes → swept t processes ≡ t
 nothing_to_drop room t processes is fits = open_stays room t processes processes is fits (λ n still. still)
 
--- ---- processes
+-- ---- an entry that is written back
+
+-- as it is, into a map
+pub same_entry_stays : {X : Type 0} (m : List (ℕ × X)) (k : ℕ) (x : X) → IsMap nat_cmp m → get nat_cmp m k ≡ Some x → with_entry nat_cmp m k x ≡ m
+same_entry_stays m k x sorted there = same_map (with_entry nat_cmp m k x) m (with_entry-IsMap m k x sorted) sorted
+    (λ q. get-with_entry m k x q ∙ at q (is_eq (nat_cmp q k)) refl)
+  where
+    at : (q : ℕ) (b : Bool) → is_eq (nat_cmp q k) ≡ b → cond b (Some x) (get nat_cmp m q) ≡ get nat_cmp m q
+    at q true t = sym (ap (get nat_cmp m) (tied q k t) ∙ there)
+    at q false f = refl
 
 pub same_process_stays : (processes : ProcessTable) (pid : ℕ) (p : Process) → IsMap nat_cmp processes → get nat_cmp processes pid ≡ Some p
     → with_entry nat_cmp processes pid p ≡ processes
-same_process_stays processes pid p m there = same_map (with_entry nat_cmp processes pid p) processes (with_entry-IsMap processes pid p m) m
-    (λ q. get-with_entry processes pid p q ∙ at q (is_eq (nat_cmp q pid)) refl)
-  where
-    at : (q : ℕ) (b : Bool) → is_eq (nat_cmp q pid) ≡ b → cond b (Some p) (get nat_cmp processes q) ≡ get nat_cmp processes q
-    at q true t = sym (ap (get nat_cmp processes) (tied q pid t) ∙ there)
-    at q false f = refl
+same_process_stays processes pid p sorted there = same_entry_stays processes pid p sorted there
 
 -- ---- one node
 

@@ -3,6 +3,7 @@ ghost use Rattle.fs_cred.specs.Laws.{HasAnAnswer, HasOneAnswer, VerdictDecides};
 ghost use Rattle.fs_model.specs.Laws.{AccessKindsAgree, CountsFit, EffectsAnswerOtherwise, FindingRefuses, FindsAreThere, FirmRefusesOtherwise, FollowedAreNoLinks, FreeAreClear, NewDiskStands, NewImagesExist, NoneRefuses, NothingToDrop, NumbersAreCounts, ObeyingStands, OneFinding, OneNodeChanges, OpenStays, OtherRefusesOtherwise, PruningKeeps, RefusesLeast, RewritingKeeps, SameProcessStays, SomeImageStands, StandingObeys, StandingRests, StandingRestsOnReading, StandsForOne, StandsInVersion, StepsKeep, StoredKindsAgree, SyncingKeeps, TypesComeBack, WalksRefuseOtherwise};
 ghost use Rattle.fs_model.specs.Confinement.{Confinement, GoneIsRefused, StepsAreBy, StepsBy};
 ghost use Rattle.fs_model.specs.Ranges.{IsSomeId, IsCall};
+ghost use Rattle.fs_model.specs.Reading.{ReadingKeeps, SyncKeeps};
 ghost use Rattle.fs_model.specs.Runs.{RunsAreRefusedAlike, RunsOfMoves, RunsOfWrites};
 ghost use Rattle.posix_acl.specs.AccessList.{IsSomeAcl};
 
@@ -107,6 +108,12 @@ pub fn steps_keep_states()
 pub fn fitting_states_drop_nothing()
     ensures same { NothingToDrop }
     ensures open_stays { OpenStays }
+{}
+
+/// An event that only looks leaves a tree as it is, where no file of it is nameless; and so does a sync.
+pub fn reading_keeps_the_tree()
+    ensures reading { ReadingKeeps }
+    ensures sync { SyncKeeps }
 {}
 
 /// A process that is written back as it is leaves the table of processes as it is.
