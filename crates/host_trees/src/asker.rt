@@ -1,6 +1,8 @@
 //! What is asked of a file system, and whether all of it was done.
 ghost use Rattle.std.specs.Prelude.{◌≡◌, ◌&&◌, OnErr, true, false, IsTrue};
-ghost use Rattle.host_trees.specs.Copies.{Asks, IsOfCopying, AsksTelling, is_done, is_so_long, is_whole};
+ghost use Rattle.fs_model.specs.Steps.{is_of_machine};
+ghost use Rattle.fs_model.specs.declared.event.Event.TheVariants as events;
+ghost use Rattle.host_trees.specs.Copies.{AsksOne, Tells, is_done, is_so_long, is_whole};
 
 use crate::fault::Copied;
 use crate::file_system::FileSystem;
@@ -85,8 +87,8 @@ impl<M> Asker<M> {
 impl<M: FileSystem> Asker<M> {
     // The reply to an event, and whether all was done.
     fn ask(&mut self, event: &Event) -> (Reply, bool)
-        requires { IsOfCopying event.now }
-        ensures { Asks M.Serves self.old.machine self.new.machine self.old.is_whole self.new.is_whole }
+        requires { IsTrue (is_of_machine event.now) }
+        ensures { AsksOne M.Serves event.now self.old.machine self.new.machine self.old.is_whole self.new.is_whole }
     {
         let reply = self.machine.serve(event);
         let done = is_done(event, &reply);
@@ -96,8 +98,8 @@ impl<M: FileSystem> Asker<M> {
 
     /// The reply to an event, where all was done that it asks for.
     pub(crate) fn obtain(&mut self, event: Event) -> Result<Reply, Lack>
-        requires { IsOfCopying event }
-        ensures { Asks M.Serves self.old.machine self.new.machine self.old.is_whole self.new.is_whole }
+        requires { IsTrue (is_of_machine event) }
+        ensures { AsksOne M.Serves event self.old.machine self.new.machine self.old.is_whole self.new.is_whole }
     {
         let (reply, done) = self.ask(&event);
         event.discard();
@@ -106,14 +108,14 @@ impl<M: FileSystem> Asker<M> {
 
     /// The reply to a call of a process, where all was done that it asks for.
     pub(crate) fn call(&mut self, pid: usize, call: Call) -> Result<Reply, Lack>
-        ensures { Asks M.Serves self.old.machine self.new.machine self.old.is_whole self.new.is_whole }
+        ensures { AsksOne M.Serves (events.Call pid call) self.old.machine self.new.machine self.old.is_whole self.new.is_whole }
     {
         self.obtain(Event::Call(pid, call))
     }
 
     /// Makes a call of a process whose reply says no more than that all was done.
     pub(crate) fn perform(&mut self, pid: usize, call: Call) -> Result<(), Lack>
-        ensures { Asks M.Serves self.old.machine self.new.machine self.old.is_whole self.new.is_whole }
+        ensures { AsksOne M.Serves (events.Call pid call) self.old.machine self.new.machine self.old.is_whole self.new.is_whole }
     {
         self.call(pid, call)?.discard();
         Ok(())
@@ -127,7 +129,7 @@ pub(crate) fn name_lack<M: FileSystem, E: Write>(
     path: &str,
     lack: Lack,
 )
-    ensures told { AsksTelling M.Serves asker.old.machine asker.new.machine asker.old.is_whole asker.new.is_whole err.old err.new }
+    ensures told { Tells asker.old.machine asker.new.machine asker.old.is_whole asker.new.is_whole err.old err.new }
     ensures lacking { asker.new.is_whole ≡ false }
 {
     asker.lacks();
@@ -141,7 +143,7 @@ pub(crate) fn name_if_lacking<M: FileSystem, E: Write>(
     path: &str,
     tried: Result<(), Lack>,
 )
-    ensures told { AsksTelling M.Serves asker.old.machine asker.new.machine asker.old.is_whole asker.new.is_whole err.old err.new }
+    ensures told { Tells asker.old.machine asker.new.machine asker.old.is_whole asker.new.is_whole err.old err.new }
     ensures lacking { OnErr tried (asker.new.is_whole ≡ false) }
 {
     match tried {

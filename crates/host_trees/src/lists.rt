@@ -1,4 +1,5 @@
 //! What access lists leave to an object where there are modes alone.
+ghost use Rattle.fs_model.specs.Reading.{IsReading};
 ghost use Rattle.host_trees.specs.Copies.{Asks};
 
 use crate::asker::Asker;
@@ -43,7 +44,7 @@ pub(crate) fn grants_of<M: FileSystem>(
     place: Place<'_>,
     status: Status,
 ) -> Result<Grants, Lack>
-    ensures { Asks M.Serves asker.old.machine asker.new.machine asker.old.is_whole asker.new.is_whole }
+    ensures { Asks M.Serves IsReading asker.old.machine asker.new.machine asker.old.is_whole asker.new.is_whole }
 {
     if let FileType::Link = status.kind {
         return Ok(Grants::by_mode(status.mode));

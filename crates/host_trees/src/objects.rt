@@ -1,11 +1,11 @@
 //! Makes objects of a file system as those of the host are.
-ghost use Rattle.host_trees.specs.Copies.{Asks};
+ghost use Rattle.host_trees.specs.Copies.{Asks, IsMaking};
 
 use crate::asker::Asker;
 use crate::entry::{Entry, OF_DIRECTORIES};
 use crate::file_system::FileSystem;
 use crate::lack::Lack;
-use crate::place::{Opened, Place};
+use crate::place::Place;
 use crate::replies::status_in;
 use crate::times::Times;
 use crate::work::{Made, Pending, Work, hand_for, path_of};
@@ -24,7 +24,7 @@ pub(crate) fn pack_directory<M: FileSystem>(
     object: &Pending,
     entry: Entry,
 ) -> Result<(), Lack>
-    ensures { Asks M.Serves asker.old.machine asker.new.machine asker.old.is_whole asker.new.is_whole }
+    ensures { Asks M.Serves IsMaking asker.old.machine asker.new.machine asker.old.is_whole asker.new.is_whole }
 {
     let pid = hand_for(asker, work, entry.owner)?;
     let place = place_of(work, pid, object);
@@ -42,12 +42,12 @@ pub(crate) fn pack_file<R: Files, M: FileSystem>(
     object: &Pending,
     entry: Entry,
 ) -> Result<(), Lack>
-    ensures { Asks M.Serves asker.old.machine asker.new.machine asker.old.is_whole asker.new.is_whole }
+    ensures { Asks M.Serves IsMaking asker.old.machine asker.new.machine asker.old.is_whole asker.new.is_whole }
 {
     let mut file = fs::open(rt, object.host.as_str())?;
     let pid = hand_for(asker, work, entry.owner)?;
     let place = place_of(work, pid, object);
-    let fd = place.open(asker, Opened::NewFile, entry.file_mode())?;
+    let fd = place.create(asker, entry.file_mode())?;
     fill_file(asker, work, pid, fd, &mut file, entry)
 }
 
@@ -60,7 +60,7 @@ fn fill_file<F: Read, M: FileSystem>(
     file: &mut F,
     entry: Entry,
 ) -> Result<(), Lack>
-    ensures { Asks M.Serves asker.old.machine asker.new.machine asker.old.is_whole asker.new.is_whole }
+    ensures { Asks M.Serves IsMaking asker.old.machine asker.new.machine asker.old.is_whole asker.new.is_whole }
 {
     let written = write_contents(work.alloc, asker, pid, fd, file, &mut work.room);
     let stamped = stamp_open(asker, pid, fd, entry.times);
@@ -76,7 +76,7 @@ pub(crate) fn pack_link<R: Files + AllocGlobal, M: FileSystem>(
     object: &Pending,
     entry: Entry,
 ) -> Result<(), Lack>
-    ensures { Asks M.Serves asker.old.machine asker.new.machine asker.old.is_whole asker.new.is_whole }
+    ensures { Asks M.Serves IsMaking asker.old.machine asker.new.machine asker.old.is_whole asker.new.is_whole }
 {
     let target = target_of(rt, work.alloc, object)?;
     let pid = hand_for(asker, work, entry.owner)?;
@@ -104,7 +104,7 @@ pub(crate) fn pack_other_name<M: FileSystem>(
     object: &Pending,
     entry: Entry,
 ) -> Result<(), Lack>
-    ensures { Asks M.Serves asker.old.machine asker.new.machine asker.old.is_whole asker.new.is_whole }
+    ensures { Asks M.Serves IsMaking asker.old.machine asker.new.machine asker.old.is_whole asker.new.is_whole }
 {
     let pid = hand_for(asker, work, entry.owner)?;
     let place = place_of(work, pid, object);
@@ -130,7 +130,7 @@ fn stamp_at<M: FileSystem>(
     place: Place<'_>,
     times: Option<Times>,
 ) -> Result<(), Lack>
-    ensures { Asks M.Serves asker.old.machine asker.new.machine asker.old.is_whole asker.new.is_whole }
+    ensures { Asks M.Serves IsMaking asker.old.machine asker.new.machine asker.old.is_whole asker.new.is_whole }
 {
     let status = place.status(asker)?;
     stamp(asker, status.ino, times)
@@ -143,7 +143,7 @@ fn stamp_open<M: FileSystem>(
     fd: usize,
     times: Option<Times>,
 ) -> Result<(), Lack>
-    ensures { Asks M.Serves asker.old.machine asker.new.machine asker.old.is_whole asker.new.is_whole }
+    ensures { Asks M.Serves IsMaking asker.old.machine asker.new.machine asker.old.is_whole asker.new.is_whole }
 {
     let status = status_in(asker.call(pid, Call::Fstat(fd))?)?;
     stamp(asker, status.ino, times)
@@ -151,7 +151,7 @@ fn stamp_open<M: FileSystem>(
 
 // Gives an object its times, if they are known.
 fn stamp<M: FileSystem>(asker: &mut Asker<M>, ino: u32, times: Option<Times>) -> Result<(), Lack>
-    ensures { Asks M.Serves asker.old.machine asker.new.machine asker.old.is_whole asker.new.is_whole }
+    ensures { Asks M.Serves IsMaking asker.old.machine asker.new.machine asker.old.is_whole asker.new.is_whole }
 {
     match times {
         Some(times) => set_times(asker, ino, times),
@@ -160,7 +160,7 @@ fn stamp<M: FileSystem>(asker: &mut Asker<M>, ino: u32, times: Option<Times>) ->
 }
 
 fn set_times<M: FileSystem>(asker: &mut Asker<M>, ino: u32, times: Times) -> Result<(), Lack>
-    ensures { Asks M.Serves asker.old.machine asker.new.machine asker.old.is_whole asker.new.is_whole }
+    ensures { Asks M.Serves IsMaking asker.old.machine asker.new.machine asker.old.is_whole asker.new.is_whole }
 {
     let event = Event::Stamp {
         ino,
@@ -180,7 +180,7 @@ pub(crate) fn finish_directory<M: FileSystem>(
     work: &mut Work,
     made: &Made,
 ) -> Result<(), Lack>
-    ensures { Asks M.Serves asker.old.machine asker.new.machine asker.old.is_whole asker.new.is_whole }
+    ensures { Asks M.Serves IsMaking asker.old.machine asker.new.machine asker.old.is_whole asker.new.is_whole }
 {
     give_bits(asker, work, made)?;
     stamp(asker, made.ino, made.entry.times)?;
@@ -197,7 +197,7 @@ fn root_lack(made: &Made) -> Result<(), Lack> {
 }
 
 fn give_bits<M: FileSystem>(asker: &mut Asker<M>, work: &mut Work, made: &Made) -> Result<(), Lack>
-    ensures { Asks M.Serves asker.old.machine asker.new.machine asker.old.is_whole asker.new.is_whole }
+    ensures { Asks M.Serves IsMaking asker.old.machine asker.new.machine asker.old.is_whole asker.new.is_whole }
 {
     if made.ino == ROOT {
         return give_root(asker, work, made);
@@ -210,7 +210,7 @@ fn give_bits<M: FileSystem>(asker: &mut Asker<M>, work: &mut Work, made: &Made) 
 
 // Gives the root its owner and its mode.
 fn give_root<M: FileSystem>(asker: &mut Asker<M>, work: &mut Work, made: &Made) -> Result<(), Lack>
-    ensures { Asks M.Serves asker.old.machine asker.new.machine asker.old.is_whole asker.new.is_whole }
+    ensures { Asks M.Serves IsMaking asker.old.machine asker.new.machine asker.old.is_whole asker.new.is_whole }
 {
     let owner = made.entry.owner;
     let pid = hand_for(asker, work, owner)?;
@@ -226,7 +226,7 @@ fn give_root<M: FileSystem>(asker: &mut Asker<M>, work: &mut Work, made: &Made) 
 
 // Gives a directory its mode.
 fn give_mode<M: FileSystem>(asker: &mut Asker<M>, work: &mut Work, made: &Made) -> Result<(), Lack>
-    ensures { Asks M.Serves asker.old.machine asker.new.machine asker.old.is_whole asker.new.is_whole }
+    ensures { Asks M.Serves IsMaking asker.old.machine asker.new.machine asker.old.is_whole asker.new.is_whole }
 {
     let pid = hand_for(asker, work, made.entry.owner)?;
     let path = path_of(work.alloc, made.inside.as_str())?;

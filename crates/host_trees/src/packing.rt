@@ -2,7 +2,7 @@
 ghost use Rattle.std.specs.Prelude.{◌≡◌, OnOk, IsTrue};
 ghost use Rattle.fs_model.specs.declared.event.Event.TheVariants.{Sync};
 ghost use Rattle.fs_model.specs.declared.reply.Reply.TheVariants.{Done};
-ghost use Rattle.host_trees.specs.Copies.{Asks, ArePacking, Copies, AsksTelling, is_copied_whole};
+ghost use Rattle.host_trees.specs.Copies.{Asks, ArePacking, Copies, AsksTelling, is_copied_whole, IsMaking};
 
 use crate::asker::{Asker, name_if_lacking, name_lack};
 use crate::entry::{Entry, OF_DIRECTORIES, OF_FILES};
@@ -21,8 +21,10 @@ use std::rt::Files;
 /// Copies the tree below a directory of the host to a file system that is empty, its root among it, and makes it stable. All gets
 /// the user and the group that are given, or else those that it has.
 ///
-/// Each object is made by a process of its owner with all capabilities. What can't be copied is named, and left out; what a file
-/// system can't keep of an object is named, and the object is there without it. Nothing is named of a tree that is copied whole.
+/// Each object is made by a process of its owner with all capabilities. No call removes, renames or cuts off anything.
+///
+/// What can't be copied is named, and left out; what a file system can't keep of an object is named, and the object is there
+/// without it. Nothing is named of a tree that is copied whole.
 pub fn pack<R: Files + AllocGlobal, M: FileSystem, E: Write>(
     rt: &R,
     machine: M,
@@ -75,7 +77,7 @@ fn pack_tree<R: Files + AllocGlobal, M: FileSystem, E: Write>(
 // Makes all stable.
 fn sync<M: FileSystem>(asker: &mut Asker<M>) -> Result<(), CopyFault>
     ensures stable { OnOk result (M.Serves asker.old.machine Sync Done asker.new.machine) }
-    ensures asked { Asks M.Serves asker.old.machine asker.new.machine asker.old.is_whole asker.new.is_whole }
+    ensures asked { Asks M.Serves IsMaking asker.old.machine asker.new.machine asker.old.is_whole asker.new.is_whole }
 {
     let event = Event::Sync;
     let reply = asker.machine.serve(&event);
@@ -97,7 +99,7 @@ fn pack_directories<R: Files + AllocGlobal, M: FileSystem, E: Write>(
     work: &mut Work,
     err: &mut E,
 )
-    ensures { AsksTelling M.Serves asker.old.machine asker.new.machine asker.old.is_whole asker.new.is_whole err.old err.new }
+    ensures { AsksTelling M.Serves IsMaking asker.old.machine asker.new.machine asker.old.is_whole asker.new.is_whole err.old err.new }
 {
     // Bounded, since each function has to end.
     for _ in 0..u64::MAX {
@@ -116,7 +118,7 @@ fn pack_below<R: Files + AllocGlobal, M: FileSystem, E: Write>(
     directory: &Pending,
     err: &mut E,
 )
-    ensures { AsksTelling M.Serves asker.old.machine asker.new.machine asker.old.is_whole asker.new.is_whole err.old err.new }
+    ensures { AsksTelling M.Serves IsMaking asker.old.machine asker.new.machine asker.old.is_whole asker.new.is_whole err.old err.new }
 {
     match names_of(rt, asker, directory, err) {
         Ok(names) => pack_names(rt, asker, work, directory, &names, err),
@@ -131,7 +133,7 @@ fn names_of<R: Files + AllocGlobal, M: FileSystem, E: Write>(
     directory: &Pending,
     err: &mut E,
 ) -> Result<Vec<String>, Lack>
-    ensures { AsksTelling M.Serves asker.old.machine asker.new.machine asker.old.is_whole asker.new.is_whole err.old err.new }
+    ensures { AsksTelling M.Serves IsMaking asker.old.machine asker.new.machine asker.old.is_whole asker.new.is_whole err.old err.new }
 {
     let mut names = Vec::new(rt.alloc());
     for entry in fs::read_dir(&rt, directory.host.as_str())? {
@@ -150,7 +152,7 @@ fn take_name<R: Files + Drop, M: FileSystem, E: Write>(
     entry: io::Result<DirEntry<R, Global>>,
     err: &mut E,
 ) -> Result<(), Lack>
-    ensures { AsksTelling M.Serves asker.old.machine asker.new.machine asker.old.is_whole asker.new.is_whole err.old err.new }
+    ensures { AsksTelling M.Serves IsMaking asker.old.machine asker.new.machine asker.old.is_whole asker.new.is_whole err.old err.new }
 {
     match entry {
         Ok(entry) => push_name(alloc, names, entry.file_name()),
@@ -175,7 +177,7 @@ fn pack_names<R: Files + AllocGlobal, M: FileSystem, E: Write>(
     names: &[String],
     err: &mut E,
 )
-    ensures { AsksTelling M.Serves asker.old.machine asker.new.machine asker.old.is_whole asker.new.is_whole err.old err.new }
+    ensures { AsksTelling M.Serves IsMaking asker.old.machine asker.new.machine asker.old.is_whole asker.new.is_whole err.old err.new }
 {
     for name in names {
         pack_name(rt, asker, work, directory, name.as_str(), err);
@@ -191,7 +193,7 @@ fn pack_name<R: Files + AllocGlobal, M: FileSystem, E: Write>(
     name: &str,
     err: &mut E,
 )
-    ensures { AsksTelling M.Serves asker.old.machine asker.new.machine asker.old.is_whole asker.new.is_whole err.old err.new }
+    ensures { AsksTelling M.Serves IsMaking asker.old.machine asker.new.machine asker.old.is_whole asker.new.is_whole err.old err.new }
 {
     match below(work.alloc, directory, name) {
         Ok(object) => pack_named(rt, asker, work, &object, err),
@@ -206,7 +208,7 @@ fn pack_named<R: Files + AllocGlobal, M: FileSystem, E: Write>(
     object: &Pending,
     err: &mut E,
 )
-    ensures { AsksTelling M.Serves asker.old.machine asker.new.machine asker.old.is_whole asker.new.is_whole err.old err.new }
+    ensures { AsksTelling M.Serves IsMaking asker.old.machine asker.new.machine asker.old.is_whole asker.new.is_whole err.old err.new }
 {
     let packed = pack_object(rt, asker, work, object);
     name_if_lacking(asker, err, object.host.as_str(), packed);
@@ -219,7 +221,7 @@ fn pack_object<R: Files + AllocGlobal, M: FileSystem>(
     work: &mut Work,
     object: &Pending,
 ) -> Result<(), Lack>
-    ensures { Asks M.Serves asker.old.machine asker.new.machine asker.old.is_whole asker.new.is_whole }
+    ensures { Asks M.Serves IsMaking asker.old.machine asker.new.machine asker.old.is_whole asker.new.is_whole }
 {
     let metadata = fs::symlink_metadata(rt, object.host.as_str())?;
     let entry = Entry::of(&metadata, work.given);
@@ -240,7 +242,7 @@ fn pack_nondirectory<R: Files + AllocGlobal, M: FileSystem>(
     metadata: &Metadata,
     entry: Entry,
 ) -> Result<(), Lack>
-    ensures { Asks M.Serves asker.old.machine asker.new.machine asker.old.is_whole asker.new.is_whole }
+    ensures { Asks M.Serves IsMaking asker.old.machine asker.new.machine asker.old.is_whole asker.new.is_whole }
 {
     if let Some(first) = work.first_name(metadata)? {
         return pack_other_name(asker, work, first, object, entry);
@@ -257,7 +259,7 @@ fn pack_new<R: Files + AllocGlobal, M: FileSystem>(
     metadata: &Metadata,
     entry: Entry,
 ) -> Result<(), Lack>
-    ensures { Asks M.Serves asker.old.machine asker.new.machine asker.old.is_whole asker.new.is_whole }
+    ensures { Asks M.Serves IsMaking asker.old.machine asker.new.machine asker.old.is_whole asker.new.is_whole }
 {
     if metadata.is_file() {
         return pack_file(rt, asker, work, object, entry);
@@ -272,7 +274,7 @@ fn pack_new<R: Files + AllocGlobal, M: FileSystem>(
 
 // Gives all directories what waits until their names are there.
 fn finish_directories<M: FileSystem, E: Write>(asker: &mut Asker<M>, work: &mut Work, err: &mut E)
-    ensures { AsksTelling M.Serves asker.old.machine asker.new.machine asker.old.is_whole asker.new.is_whole err.old err.new }
+    ensures { AsksTelling M.Serves IsMaking asker.old.machine asker.new.machine asker.old.is_whole asker.new.is_whole err.old err.new }
 {
     // Bounded, since each function has to end.
     for _ in 0..u64::MAX {

@@ -1,5 +1,7 @@
 //! A place in the tree of a file system, as a process sees it.
-ghost use Rattle.host_trees.specs.Copies.{Asks};
+ghost use Rattle.std.specs.Prelude.{IsTrue, IsFalse};
+ghost use Rattle.fs_model.specs.Reading.{IsReading};
+ghost use Rattle.host_trees.specs.Copies.{Asks, IsMaking};
 
 use crate::asker::Asker;
 use crate::file_system::FileSystem;
@@ -17,28 +19,48 @@ pub(crate) struct Place<'a> {
     pub(crate) inside: &'a [u8],
 }
 
-/// What is opened.
+/// What is opened for reading.
 #[derive(Clone, Copy)]
 pub(crate) enum Opened {
     File,
     Directory,
-    NewFile,
 }
 
 impl Opened {
-    // A new file is opened for writing, and all else for reading, unless it is a link.
-    fn flags(self) -> Flags {
-        let new = matches!(self, Opened::NewFile);
+    // What is there is opened, unless it is a link, and stays as it is.
+    fn flags(self) -> Flags
+        ensures create { IsFalse result.create }
+        ensures trunc { IsFalse result.trunc }
+        ensures write { IsFalse result.write }
+    {
         Flags {
-            read: !new,
-            write: new,
-            create: new,
-            excl: new,
+            read: true,
+            write: false,
+            create: false,
+            excl: false,
             trunc: false,
             append: false,
-            nofollow: !new,
+            nofollow: true,
             directory: matches!(self, Opened::Directory),
         }
+    }
+}
+
+// A file that isn't there yet is made, and opened for writing.
+fn new_file_flags() -> Flags
+    ensures create { IsTrue result.create }
+    ensures excl { IsTrue result.excl }
+    ensures trunc { IsFalse result.trunc }
+{
+    Flags {
+        read: false,
+        write: true,
+        create: true,
+        excl: true,
+        trunc: false,
+        append: false,
+        nofollow: false,
+        directory: false,
     }
 }
 
@@ -50,7 +72,8 @@ impl Place<'_> {
 
     /// The status of what stands there, also of a symbolic link.
     pub(crate) fn status<M: FileSystem>(self, asker: &mut Asker<M>) -> Result<Status, Lack>
-        ensures { Asks M.Serves asker.old.machine asker.new.machine asker.old.is_whole asker.new.is_whole }
+        ensures reads { Asks M.Serves IsReading asker.old.machine asker.new.machine asker.old.is_whole asker.new.is_whole }
+        ensures makes { Asks M.Serves IsMaking asker.old.machine asker.new.machine asker.old.is_whole asker.new.is_whole }
     {
         let path = self.path()?;
         status_in(asker.call(self.pid, Call::Lstat(path))?)
@@ -62,22 +85,33 @@ impl Place<'_> {
         asker: &mut Asker<M>,
         which: AclType,
     ) -> Result<Option<Acl>, Lack>
-        ensures { Asks M.Serves asker.old.machine asker.new.machine asker.old.is_whole asker.new.is_whole }
+        ensures { Asks M.Serves IsReading asker.old.machine asker.new.machine asker.old.is_whole asker.new.is_whole }
     {
         let path = self.path()?;
         acl_in(asker.call(self.pid, Call::GetAcl(path, which))?)
     }
 
-    /// A descriptor of what stands there, or of the file that is made there with this mode.
+    /// A descriptor of what stands there, for reading.
     pub(crate) fn open<M: FileSystem>(
         self,
         asker: &mut Asker<M>,
         opened: Opened,
-        mode: u16,
     ) -> Result<usize, Lack>
-        ensures { Asks M.Serves asker.old.machine asker.new.machine asker.old.is_whole asker.new.is_whole }
+        ensures { Asks M.Serves IsReading asker.old.machine asker.new.machine asker.old.is_whole asker.new.is_whole }
     {
         let path = self.path()?;
-        fd_in(asker.call(self.pid, Call::Open(path, opened.flags(), mode))?)
+        fd_in(asker.call(self.pid, Call::Open(path, opened.flags(), 0))?)
+    }
+
+    /// A descriptor of a new file that is made there with this mode, for writing.
+    pub(crate) fn create<M: FileSystem>(
+        self,
+        asker: &mut Asker<M>,
+        mode: u16,
+    ) -> Result<usize, Lack>
+        ensures { Asks M.Serves IsMaking asker.old.machine asker.new.machine asker.old.is_whole asker.new.is_whole }
+    {
+        let path = self.path()?;
+        fd_in(asker.call(self.pid, Call::Open(path, new_file_flags(), mode))?)
     }
 }

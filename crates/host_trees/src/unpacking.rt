@@ -1,5 +1,6 @@
 //! Copies the tree of a file system to the host.
 ghost use Rattle.std.specs.Prelude.{◌≡◌, IsTrue};
+ghost use Rattle.fs_model.specs.Reading.{IsReading};
 ghost use Rattle.host_trees.specs.Copies.{Asks, AreUnpacking, Copies, AsksTelling, is_copied_whole};
 
 use crate::asker::{Asker, name_if_lacking, name_lack};
@@ -62,7 +63,8 @@ impl Work {
     }
 }
 
-/// Copies the tree of a file system to a new directory of the host. All belongs to who calls this.
+/// Copies the tree of a file system to a new directory of the host. All belongs to who calls this. The events that are asked of
+/// the file system only look.
 ///
 /// What can't be copied is named, and left out; what the host can't keep of an object is named, and the object is there without it.
 /// Where all was copied the host has each file in full, on its disk too.
@@ -101,7 +103,7 @@ fn unpack_all<R: Files + AllocGlobal, M: FileSystem, E: Write>(
     to: &str,
     err: &mut E,
 ) -> Result<(), CopyFault>
-    ensures { AsksTelling M.Serves asker.old.machine asker.new.machine asker.old.is_whole asker.new.is_whole err.old err.new }
+    ensures { AsksTelling M.Serves IsReading asker.old.machine asker.new.machine asker.old.is_whole asker.new.is_whole err.old err.new }
 {
     match spawn_reader(asker, rt.alloc()) {
         Ok(pid) => unpack_by(rt, asker, pid, to, err),
@@ -117,7 +119,7 @@ fn unpack_by<R: Files + AllocGlobal, M: FileSystem, E: Write>(
     to: &str,
     err: &mut E,
 ) -> Result<(), CopyFault>
-    ensures { AsksTelling M.Serves asker.old.machine asker.new.machine asker.old.is_whole asker.new.is_whole err.old err.new }
+    ensures { AsksTelling M.Serves IsReading asker.old.machine asker.new.machine asker.old.is_whole asker.new.is_whole err.old err.new }
 {
     let alloc = rt.alloc();
     let mut work = Work {
@@ -138,7 +140,7 @@ fn unpack_by<R: Files + AllocGlobal, M: FileSystem, E: Write>(
 
 // A new process of user 0.
 fn spawn_reader<M: FileSystem>(asker: &mut Asker<M>, alloc: Global) -> Result<usize, Lack>
-    ensures { Asks M.Serves asker.old.machine asker.new.machine asker.old.is_whole asker.new.is_whole }
+    ensures { Asks M.Serves IsReading asker.old.machine asker.new.machine asker.old.is_whole asker.new.is_whole }
 {
     let cred = root_cred(alloc)?;
     pid_in(asker.obtain(Event::Spawn(cred))?)
@@ -153,7 +155,7 @@ fn root_cred(alloc: Global) -> Result<Cred, Lack> {
 
 // What stands at a place, and what it gets on the host.
 fn seen_at<M: FileSystem>(asker: &mut Asker<M>, place: Place<'_>) -> Result<(Status, Grants), Lack>
-    ensures { Asks M.Serves asker.old.machine asker.new.machine asker.old.is_whole asker.new.is_whole }
+    ensures { Asks M.Serves IsReading asker.old.machine asker.new.machine asker.old.is_whole asker.new.is_whole }
 {
     let status = place.status(asker)?;
     let grants = grants_of(asker, place, status)?;
@@ -169,7 +171,7 @@ fn unpack_root<R: Files, M: FileSystem>(
     work: &mut Work,
     to: &str,
 ) -> Result<(), Lack>
-    ensures { Asks M.Serves asker.old.machine asker.new.machine asker.old.is_whole asker.new.is_whole }
+    ensures { Asks M.Serves IsReading asker.old.machine asker.new.machine asker.old.is_whole asker.new.is_whole }
 {
     let (status, grants) = seen_at(asker, work.place(b"/"))?;
     let host = String::from_str(work.alloc, to)?;
@@ -184,7 +186,7 @@ fn unpack_rest<R: Files + AllocGlobal, M: FileSystem, E: Write>(
     work: &mut Work,
     err: &mut E,
 )
-    ensures { AsksTelling M.Serves asker.old.machine asker.new.machine asker.old.is_whole asker.new.is_whole err.old err.new }
+    ensures { AsksTelling M.Serves IsReading asker.old.machine asker.new.machine asker.old.is_whole asker.new.is_whole err.old err.new }
 {
     unpack_directories(rt, asker, work, err);
     finish_directories(rt, asker, work, err);
@@ -214,7 +216,7 @@ fn unpack_directories<R: Files + AllocGlobal, M: FileSystem, E: Write>(
     work: &mut Work,
     err: &mut E,
 )
-    ensures { AsksTelling M.Serves asker.old.machine asker.new.machine asker.old.is_whole asker.new.is_whole err.old err.new }
+    ensures { AsksTelling M.Serves IsReading asker.old.machine asker.new.machine asker.old.is_whole asker.new.is_whole err.old err.new }
 {
     // Bounded, since each function has to end.
     for _ in 0..u64::MAX {
@@ -233,7 +235,7 @@ fn unpack_below<R: Files + AllocGlobal, M: FileSystem, E: Write>(
     directory: &Pending,
     err: &mut E,
 )
-    ensures { AsksTelling M.Serves asker.old.machine asker.new.machine asker.old.is_whole asker.new.is_whole err.old err.new }
+    ensures { AsksTelling M.Serves IsReading asker.old.machine asker.new.machine asker.old.is_whole asker.new.is_whole err.old err.new }
 {
     match listing_of(asker, work, directory) {
         Ok(listing) => unpack_names(rt, asker, work, directory, names_below(&listing), err),
@@ -255,7 +257,7 @@ fn unpack_names<R: Files + AllocGlobal, M: FileSystem, E: Write>(
     names: &[Named],
     err: &mut E,
 )
-    ensures { AsksTelling M.Serves asker.old.machine asker.new.machine asker.old.is_whole asker.new.is_whole err.old err.new }
+    ensures { AsksTelling M.Serves IsReading asker.old.machine asker.new.machine asker.old.is_whole asker.new.is_whole err.old err.new }
 {
     for named in names {
         unpack_name(rt, asker, work, directory, named.name.bytes(), err);
@@ -271,7 +273,7 @@ fn unpack_name<R: Files + AllocGlobal, M: FileSystem, E: Write>(
     name: &[u8],
     err: &mut E,
 )
-    ensures { AsksTelling M.Serves asker.old.machine asker.new.machine asker.old.is_whole asker.new.is_whole err.old err.new }
+    ensures { AsksTelling M.Serves IsReading asker.old.machine asker.new.machine asker.old.is_whole asker.new.is_whole err.old err.new }
 {
     match below(work.alloc, directory, name) {
         Ok(object) => unpack_named(rt, asker, work, &object, err),
@@ -286,7 +288,7 @@ fn unpack_named<R: Files + AllocGlobal, M: FileSystem, E: Write>(
     object: &Pending,
     err: &mut E,
 )
-    ensures { AsksTelling M.Serves asker.old.machine asker.new.machine asker.old.is_whole asker.new.is_whole err.old err.new }
+    ensures { AsksTelling M.Serves IsReading asker.old.machine asker.new.machine asker.old.is_whole asker.new.is_whole err.old err.new }
 {
     let unpacked = unpack_object(rt, asker, work, object);
     name_if_lacking(asker, err, object.host.as_str(), unpacked);
@@ -312,7 +314,7 @@ fn unpack_object<R: Files + AllocGlobal, M: FileSystem>(
     work: &mut Work,
     object: &Pending,
 ) -> Result<(), Lack>
-    ensures { Asks M.Serves asker.old.machine asker.new.machine asker.old.is_whole asker.new.is_whole }
+    ensures { Asks M.Serves IsReading asker.old.machine asker.new.machine asker.old.is_whole asker.new.is_whole }
 {
     let (status, grants) = seen_at(asker, work.place(&object.inside))?;
     if let FileType::Directory = status.kind {
@@ -340,7 +342,7 @@ fn unpack_nondirectory<R: Files + AllocGlobal, M: FileSystem>(
     status: Status,
     grants: Grants,
 ) -> Result<(), Lack>
-    ensures { Asks M.Serves asker.old.machine asker.new.machine asker.old.is_whole asker.new.is_whole }
+    ensures { Asks M.Serves IsReading asker.old.machine asker.new.machine asker.old.is_whole asker.new.is_whole }
 {
     if let Some(first) = work.names.get(&status.ino) {
         return Ok(fs::hard_link(rt, first.as_str(), object.host.as_str())?);
@@ -368,7 +370,7 @@ fn unpack_new<R: Files, M: FileSystem>(
     status: Status,
     grants: Grants,
 ) -> Result<(), Lack>
-    ensures { Asks M.Serves asker.old.machine asker.new.machine asker.old.is_whole asker.new.is_whole }
+    ensures { Asks M.Serves IsReading asker.old.machine asker.new.machine asker.old.is_whole asker.new.is_whole }
 {
     if let FileType::Link = status.kind {
         return unpack_link(rt, asker, work, object);
@@ -385,7 +387,7 @@ fn unpack_file<R: Files, M: FileSystem>(
     ino: u32,
     grants: Grants,
 ) -> Result<(), Lack>
-    ensures { Asks M.Serves asker.old.machine asker.new.machine asker.old.is_whole asker.new.is_whole }
+    ensures { Asks M.Serves IsReading asker.old.machine asker.new.machine asker.old.is_whole asker.new.is_whole }
 {
     let mut file = OpenOptions::new()
         .write(true)
@@ -404,7 +406,7 @@ fn fill_file<F: OpenFile + Write, M: FileSystem>(
     ino: u32,
     grants: Grants,
 ) -> Result<(), Lack>
-    ensures { Asks M.Serves asker.old.machine asker.new.machine asker.old.is_whole asker.new.is_whole }
+    ensures { Asks M.Serves IsReading asker.old.machine asker.new.machine asker.old.is_whole asker.new.is_whole }
 {
     read_file(asker, work, object, file)?;
     let stamps = stamps_of(asker, ino)?;
@@ -418,9 +420,9 @@ fn read_file<F: Write, M: FileSystem>(
     object: &Pending,
     file: &mut F,
 ) -> Result<(), Lack>
-    ensures { Asks M.Serves asker.old.machine asker.new.machine asker.old.is_whole asker.new.is_whole }
+    ensures { Asks M.Serves IsReading asker.old.machine asker.new.machine asker.old.is_whole asker.new.is_whole }
 {
-    let fd = work.place(&object.inside).open(asker, Opened::File, 0)?;
+    let fd = work.place(&object.inside).open(asker, Opened::File)?;
     let read = read_contents(asker, work.pid, fd, file);
     let closed = asker.perform(work.pid, Call::Close(fd));
     read.and(closed)
@@ -435,7 +437,7 @@ fn finish_file<F: OpenFile>(file: &F, mode: u16, stamps: Stamps) -> io::Result<(
 
 // The times of an object.
 fn stamps_of<M: FileSystem>(asker: &mut Asker<M>, ino: u32) -> Result<Stamps, Lack>
-    ensures { Asks M.Serves asker.old.machine asker.new.machine asker.old.is_whole asker.new.is_whole }
+    ensures { Asks M.Serves IsReading asker.old.machine asker.new.machine asker.old.is_whole asker.new.is_whole }
 {
     let event = Event::Stamp {
         ino,
@@ -453,7 +455,7 @@ fn unpack_link<R: Files, M: FileSystem>(
     work: &Work,
     object: &Pending,
 ) -> Result<(), Lack>
-    ensures { Asks M.Serves asker.old.machine asker.new.machine asker.old.is_whole asker.new.is_whole }
+    ensures { Asks M.Serves IsReading asker.old.machine asker.new.machine asker.old.is_whole asker.new.is_whole }
 {
     let path = work.place(&object.inside).path()?;
     let target = target_in(asker.call(work.pid, Call::Readlink(path))?)?;
@@ -480,10 +482,10 @@ fn listing_of<M: FileSystem>(
     work: &Work,
     directory: &Pending,
 ) -> Result<Listing, Lack>
-    ensures { Asks M.Serves asker.old.machine asker.new.machine asker.old.is_whole asker.new.is_whole }
+    ensures { Asks M.Serves IsReading asker.old.machine asker.new.machine asker.old.is_whole asker.new.is_whole }
 {
     let place = work.place(path_or_root(&directory.inside));
-    let fd = place.open(asker, Opened::Directory, 0)?;
+    let fd = place.open(asker, Opened::Directory)?;
     let listed = asker.call(work.pid, Call::Readdir(fd));
     let closed = asker.perform(work.pid, Call::Close(fd));
     match closed.and(listed) {
@@ -501,7 +503,7 @@ fn finish_directories<R: Files, M: FileSystem, E: Write>(
     work: &mut Work,
     err: &mut E,
 )
-    ensures { AsksTelling M.Serves asker.old.machine asker.new.machine asker.old.is_whole asker.new.is_whole err.old err.new }
+    ensures { AsksTelling M.Serves IsReading asker.old.machine asker.new.machine asker.old.is_whole asker.new.is_whole err.old err.new }
 {
     // Bounded, since each function has to end.
     for _ in 0..u64::MAX {
@@ -519,7 +521,7 @@ fn finish_directory<R: Files, M: FileSystem>(
     asker: &mut Asker<M>,
     made: &Made,
 ) -> Result<(), Lack>
-    ensures { Asks M.Serves asker.old.machine asker.new.machine asker.old.is_whole asker.new.is_whole }
+    ensures { Asks M.Serves IsReading asker.old.machine asker.new.machine asker.old.is_whole asker.new.is_whole }
 {
     let stamps = stamps_of(asker, made.ino)?;
     let directory = fs::open(rt, made.host.as_str())?;

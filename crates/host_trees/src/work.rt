@@ -1,5 +1,5 @@
 //! What is still to be done of a tree of the host.
-ghost use Rattle.host_trees.specs.Copies.{Asks};
+ghost use Rattle.host_trees.specs.Copies.{Asks, IsMaking};
 
 use crate::asker::Asker;
 use crate::entry::Entry;
@@ -176,7 +176,7 @@ pub(crate) fn hand_for<M: FileSystem>(
     work: &mut Work,
     owner: Owner,
 ) -> Result<usize, Lack>
-    ensures { Asks M.Serves asker.old.machine asker.new.machine asker.old.is_whole asker.new.is_whole }
+    ensures { Asks M.Serves IsMaking asker.old.machine asker.new.machine asker.old.is_whole asker.new.is_whole }
 {
     match work.pid_of(owner) {
         Some(pid) => Ok(pid),
@@ -190,7 +190,7 @@ fn change_hand<M: FileSystem>(
     work: &mut Work,
     owner: Owner,
 ) -> Result<usize, Lack>
-    ensures { Asks M.Serves asker.old.machine asker.new.machine asker.old.is_whole asker.new.is_whole }
+    ensures { Asks M.Serves IsMaking asker.old.machine asker.new.machine asker.old.is_whole asker.new.is_whole }
 {
     end_hand(asker, work)?;
     let pid = spawn_for(asker, work.alloc, owner)?;
@@ -200,7 +200,7 @@ fn change_hand<M: FileSystem>(
 
 // The process that makes objects ends, if there is one.
 fn end_hand<M: FileSystem>(asker: &mut Asker<M>, work: &mut Work) -> Result<(), Lack>
-    ensures { Asks M.Serves asker.old.machine asker.new.machine asker.old.is_whole asker.new.is_whole }
+    ensures { Asks M.Serves IsMaking asker.old.machine asker.new.machine asker.old.is_whole asker.new.is_whole }
 {
     match work.hand.take() {
         Some(hand) => end_process(asker, hand.pid),
@@ -209,7 +209,7 @@ fn end_hand<M: FileSystem>(asker: &mut Asker<M>, work: &mut Work) -> Result<(), 
 }
 
 fn end_process<M: FileSystem>(asker: &mut Asker<M>, pid: usize) -> Result<(), Lack>
-    ensures { Asks M.Serves asker.old.machine asker.new.machine asker.old.is_whole asker.new.is_whole }
+    ensures { Asks M.Serves IsMaking asker.old.machine asker.new.machine asker.old.is_whole asker.new.is_whole }
 {
     asker.obtain(Event::Exit(pid))?.discard();
     Ok(())
@@ -221,7 +221,7 @@ fn spawn_for<M: FileSystem>(
     alloc: Global,
     owner: Owner,
 ) -> Result<usize, Lack>
-    ensures { Asks M.Serves asker.old.machine asker.new.machine asker.old.is_whole asker.new.is_whole }
+    ensures { Asks M.Serves IsMaking asker.old.machine asker.new.machine asker.old.is_whole asker.new.is_whole }
 {
     let cred = cred_of(alloc, owner)?;
     let pid = pid_in(asker.obtain(Event::Spawn(cred))?)?;

@@ -1,6 +1,7 @@
 //! The bytes of files, to a file system and from it.
 ghost use Rattle.std.specs.Prelude.{◌≤◌, length, IfOk};
-ghost use Rattle.host_trees.specs.Copies.{Asks};
+ghost use Rattle.fs_model.specs.Reading.{IsReading};
+ghost use Rattle.host_trees.specs.Copies.{Asks, IsMaking};
 
 use crate::asker::Asker;
 use crate::file_system::FileSystem;
@@ -21,7 +22,7 @@ pub(crate) fn write_contents<F: Read, M: FileSystem>(
     from: &mut F,
     room: &mut [u8],
 ) -> Result<(), Lack>
-    ensures { Asks M.Serves asker.old.machine asker.new.machine asker.old.is_whole asker.new.is_whole }
+    ensures { Asks M.Serves IsMaking asker.old.machine asker.new.machine asker.old.is_whole asker.new.is_whole }
 {
     // Bounded, since each function has to end.
     for _ in 0..u64::MAX {
@@ -57,7 +58,7 @@ fn write_pieces<M: FileSystem>(
     fd: usize,
     bytes: &[u8],
 ) -> Result<(), Lack>
-    ensures { Asks M.Serves asker.old.machine asker.new.machine asker.old.is_whole asker.new.is_whole }
+    ensures { Asks M.Serves IsMaking asker.old.machine asker.new.machine asker.old.is_whole asker.new.is_whole }
 {
     for piece in bytes.chunks(PIECE) {
         let bytes = Bytes::from_slice(alloc, piece)?;
@@ -73,7 +74,7 @@ pub(crate) fn read_contents<F: Write, M: FileSystem>(
     fd: usize,
     to: &mut F,
 ) -> Result<(), Lack>
-    ensures { Asks M.Serves asker.old.machine asker.new.machine asker.old.is_whole asker.new.is_whole }
+    ensures { Asks M.Serves IsReading asker.old.machine asker.new.machine asker.old.is_whole asker.new.is_whole }
 {
     // Bounded, since each function has to end.
     for _ in 0..u64::MAX {
@@ -91,7 +92,7 @@ fn copy_piece<F: Write, M: FileSystem>(
     fd: usize,
     to: &mut F,
 ) -> Result<bool, Lack>
-    ensures { Asks M.Serves asker.old.machine asker.new.machine asker.old.is_whole asker.new.is_whole }
+    ensures { Asks M.Serves IsReading asker.old.machine asker.new.machine asker.old.is_whole asker.new.is_whole }
 {
     let bytes = read_piece(asker, pid, fd)?;
     to.write_all(bytes.bytes())?;
@@ -100,7 +101,7 @@ fn copy_piece<F: Write, M: FileSystem>(
 
 // The next bytes of a file.
 fn read_piece<M: FileSystem>(asker: &mut Asker<M>, pid: usize, fd: usize) -> Result<Bytes, Lack>
-    ensures { Asks M.Serves asker.old.machine asker.new.machine asker.old.is_whole asker.new.is_whole }
+    ensures { Asks M.Serves IsReading asker.old.machine asker.new.machine asker.old.is_whole asker.new.is_whole }
 {
     data_in(asker.call(pid, Call::Read { fd, len: PIECE })?)
 }

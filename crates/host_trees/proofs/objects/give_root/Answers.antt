@@ -1,8 +1,8 @@
-use Rattle.host_trees.proofs.Asking.{asks_then, asks_three}
+use Rattle.host_trees.proofs.Asking.{asks_one, asks_then, asks_three}
 use Rattle.host_trees.proofs.objects.give_root.Goals as goal
 
 pub returns-in_err-perform : goal.returns-in_err-perform
-returns-in_err-perform g c = asks_then c.hand_for.ensures c.perform.ensures
+returns-in_err-perform g c = asks_then c.hand_for.ensures (asks_one c.perform.ensures tt)
 
 pub returns : goal.returns
-returns g c = asks_three c.hand_for.ensures c.perform.ensures c.give_mode.ensures
+returns g c = asks_three c.hand_for.ensures (asks_one c.perform.ensures tt) c.give_mode.ensures

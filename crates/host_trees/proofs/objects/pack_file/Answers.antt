@@ -5,7 +5,7 @@ pub returns-in_err-file : goal.returns-in_err-file
 returns-in_err-file g c = asks_nothing _ _
 
 pub returns-in_err-fd : goal.returns-in_err-fd
-returns-in_err-fd g c = asks_then c.hand_for.ensures c.open-2.ensures
+returns-in_err-fd g c = asks_then c.hand_for.ensures c.create.ensures
 
 pub returns : goal.returns
-returns g c = asks_three c.hand_for.ensures c.open-2.ensures c.fill_file.ensures
+returns g c = asks_three c.hand_for.ensures c.create.ensures c.fill_file.ensures

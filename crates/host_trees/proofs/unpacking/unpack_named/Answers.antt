@@ -1,5 +1,5 @@
-use Rattle.host_trees.proofs.Asking.{tells_asked, tells_then}
+use Rattle.host_trees.proofs.Asking.{tells_asked, tells_then, tells_told}
 use Rattle.host_trees.proofs.unpacking.unpack_named.Goals as goal
 
 pub returns : goal.returns
-returns g c = tells_then (tells_asked _ c.unpack_object-unpacked.ensures) c.name_if_lacking.ensures.told
+returns g c = tells_then (tells_asked _ c.unpack_object-unpacked.ensures) (tells_told c.name_if_lacking.ensures.told)

@@ -1,0 +1,9 @@
+use Rattle.std.proofs.Common.{refl}
+use Rattle.host_trees.proofs.Asking.{asks_one}
+use Rattle.host_trees.proofs.unpacking.stamps_of.Goals as goal
+
+pub returns-in_err-obtain : goal.returns-in_err-obtain
+returns-in_err-obtain g c = asks_one c.obtain.ensures (refl, refl, refl)
+
+pub returns : goal.returns
+returns g c = asks_one c.obtain.ensures (refl, refl, refl)
