@@ -3,3 +3,4 @@ mod Findings
 mod News
 mod Sessions
 mod Copied
+mod Unpacked

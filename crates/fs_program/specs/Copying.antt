@@ -2,6 +2,7 @@
 --     copied_status, copy_end        the status of a copy, and what the unmount after it is answered
 --     MountedEnds        a tree is copied to a file system or from it, and that is unmounted
 --     CopiesOn        a tree is copied to a file system that is mounted for it, or from it
+--     LeavesTree        what is copied from stays as it is
 --     PackEnds, UnpackEnds        a disk is made a file system with a tree, and a tree is copied from a disk
 --     ImagePackEnds, ImageUnpackEnds        the same of images
 use Rattle.std.specs.Prelude.{◌≡◌, ℕ, List, map, None, Some, Result, Ok, Err}
@@ -13,6 +14,7 @@ use Rattle.fs_model.specs.States.{State}
 use Rattle.fs_model.specs.declared.event.Event.TheVariants.{Sync}
 use Rattle.fs_model.specs.declared.event.EventReply.TheVariants.{Reply as Replies}
 use Rattle.fs_model.specs.declared.reply.Reply.{Reply}
+use Rattle.fs_images.specs.Standing.{EachStandsFor}
 use Rattle.fs_images.specs.Making.{IsDeviceFault, IsNewDisk}
 use Rattle.fs_images.specs.declared.faults.MkfsFault.{MkfsFault}
 use Rattle.fs_images.specs.declared.faults.MkfsFault.TheVariants.{TooSmall}
@@ -68,6 +70,12 @@ pub record CopiesOn {D : Type 0} (state : D → DiskState) (disk : D) (Are : Lis
   pub u : State
   pub unmounts : Does (state last) (state left) t Sync reply u
 
+-- The tree is the one that was mounted, and each image that a stop may leave then stands for it.
+pub record LeavesTree {D : Type 0} (state : D → DiskState) {disk : D} {Are : List Asked → Type 0} {reply : Reply}
+    (copies : CopiesOn state disk Are reply) : Type 0 where
+  pub tree : copies.u.tree ≡ copies.s.tree
+  pub images : EachStandsFor copies.s.room (state copies.left) copies.s.tree
+
 -- A disk is to be made a file system with the tree of a directory: all of the tree is there, and stable, where that is done.
 pub data PackEnds {D : Type 0} (state : D → DiskState) (old : D) (geometry : Geometry) (result : Result Status Failure) : Type 0 where
   cannot_make : (now : D) (fault : MkfsFault) → IsDeviceFault (state old) (state now) fault → result ≡ Err (failures.Mkfs fault)
@@ -78,12 +86,12 @@ pub data PackEnds {D : Type 0} (state : D → DiskState) (old : D) (geometry : G
       → IsStable (state made) → CopiesOn state made (λ asked. ArePacking asked packed) reply → result ≡ copy_end failures.Pack packed reply
       → PackEnds state old geometry result
 
--- The tree of a disk is to be copied to a new directory.
+-- The tree of a disk is to be copied to a new directory. It stays on the disk as it was mounted, however that ends.
 pub data UnpackEnds {D : Type 0} (state : D → DiskState) (old : D) (result : Result Status Failure) : Type 0 where
   is_not_mounted : (now : D) (fault : MountFault) → IsNotMounted (state old) (state now) fault → result ≡ Err (failures.Mount fault)
       → UnpackEnds state old result
-  has_unpacked : (unpacked : Result Copied CopyFault) (reply : Reply) → CopiesOn state old (λ asked. AreUnpacking asked unpacked) reply
-      → result ≡ copy_end failures.Unpack unpacked reply → UnpackEnds state old result
+  has_unpacked : (unpacked : Result Copied CopyFault) (reply : Reply) (copies : CopiesOn state old (λ asked. AreUnpacking asked unpacked) reply)
+      → LeavesTree state copies → result ≡ copy_end failures.Unpack unpacked reply → UnpackEnds state old result
 
 -- An image of the third layout is to be made with the tree of a directory. Where that can't be, no file is made but in the last case.
 pub data ImagePackEnds {D : Type 0} (state : D → DiskState) (sectors inodes : ℕ) (result : Result Status Failure) : Type 0 where
