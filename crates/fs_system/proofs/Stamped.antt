@@ -3,10 +3,9 @@
 --     stamp_absent, same_stamped, saved_stamped        what is answered
 --     stamp_performed        it is performed
 --     stamp_refused_steps, why_not_stamped        or refused
-use Rattle.std.proofs.Common.{◌≡◌, ◌≢◌, ℕ, ◌<◌, ◌≤◌, Bool, true, false, cond, [], ◌∷◌, Option, None, Some, IsTrue, refl, sym, ap, subst, ◌∙◌, arith}
+use Rattle.std.proofs.Common.{◌≡◌, ◌≢◌, ℕ, ◌<◌, ◌≤◌, Bool, true, false, cond, Option, None, Some, IsTrue, refl, sym, ap, subst, ◌∙◌, arith}
 use Rattle.std.specs.Prelude.{IsFalse, not, is_some}
 use Rattle.std.proofs.lemmas.Bool.{not-false}
-use Rattle.std.specs.Ordering.{nat_cmp, is_eq}
 use Rattle.sector_disk.specs.Disk.{DiskState, HasFailed}
 use Rattle.fs_cred.specs.declared.errno.Errno.{Errno}
 use Rattle.fs_cred.specs.declared.errno.Errno.TheVariants.{ENOENT}
@@ -17,10 +16,7 @@ use Rattle.fs_layout.specs.declared.geometry.Geometry.{Geometry}
 use Rattle.fs_layout.specs.Bytes.{SectorMap}
 use Rattle.fs_layout.specs.Images.{inode_at}
 use Rattle.fs_layout.specs.Inode.{free_inode}
-use Rattle.fs_layout.specs.Maps.{IsMap}
 use Rattle.fs_layout.specs.Version.{keeps_times}
-use Rattle.fs_layout.proofs.FirstEntries.{tied}
-use Rattle.fs_layout.proofs.MapLaws.{get-with_entry, with_entry-IsMap, same_map}
 use Rattle.bit_alloc.specs.Inodes.{KeepsBytes, KeepsAcls}
 use Rattle.fs_model.specs.declared.event.Event.{Event}
 use Rattle.fs_model.specs.declared.event.Event.TheVariants.{Stamp}
@@ -45,12 +41,12 @@ use Rattle.fs_model.specs.TreeChanges.{Change, Rewrite, changed, touches, touche
 use Rattle.fs_model.proofs.NoIoReplies.{other_spares_reply}
 use Rattle.fs_model.proofs.OneNode.{body_not_free}
 use Rattle.fs_model.proofs.PlacedNodes.{node_below, placed_from}
-use Rattle.fs_model.proofs.Restamps.{untouched_stays}
+use Rattle.fs_model.proofs.Restamps.{none_moves}
 use Rattle.fs_model.proofs.StepsDemands.{unrefused}
 use Rattle.fs_model.proofs.StepsFit.{node_is_there}
 use Rattle.fs_model.proofs.StepsKinds.{MayReplace, replaced_is_tree, replaced_keeps_types, process_moves}
 use Rattle.fs_model.proofs.StepsSwept.{MayBeLeft, tree_may_be_left}
-use Rattle.fs_model.proofs.Unchanged.{nothing_to_drop}
+use Rattle.fs_model.proofs.Unchanged.{nothing_to_drop, same_entry_stays}
 use Rattle.path_walk.proofs.HeldNodes.{held_node}
 use Rattle.call_parts.specs.Given.{ChangesOne}
 use Rattle.call_parts.specs.Performing.{IsStateOf, chosen}
@@ -61,25 +57,6 @@ use Rattle.call_parts.proofs.Shown.{the_node_is}
 use Rattle.fs_system.specs.Stamping.{AreCounts, IsStamped, IsNotStamped, absent, read_fails}
 use Rattle.fs_system.proofs.Endings.{IsPerformed}
 use Rattle.fs_system.proofs.StampedNodes.{stamps_fit, stamped_held}
-
--- ---- a tree
-
--- the node that stands there already
-same_node_stays : (t : Tree) (n : ℕ) (node : Node) → IsMap nat_cmp t → node_at t n ≡ Some node → with_node t n node ≡ t
-same_node_stays t n node m there =
-    same_map (with_node t n node) t (with_entry-IsMap t n node m) m (λ q. get-with_entry t n node q ∙ at q (is_eq (nat_cmp q n)) refl)
-  where
-    at : (q : ℕ) (b : Bool) → is_eq (nat_cmp q n) ≡ b → cond b (Some node) (node_at t q) ≡ node_at t q
-    at q true t_is = sym (ap (node_at t) (tied q n t_is) ∙ there)
-    at q false f = refl
-
--- of what is set no time moves
-none_moves : (room : Room) (t : Tree) (time n : ℕ) (node : Node) (u : Tree) → touched time (touches room t (Rewrite Untouched n node)) u ≡ u
-none_moves room t time n node u = go room.keeps_times
-  where
-    go : (b : Bool) → touched time (cond b ((n, Untouched) ∷ []) []) u ≡ u
-    go true = untouched_stays time n u
-    go false = refl
 
 -- ---- in a state
 
@@ -157,7 +134,7 @@ module _ {p : Geometry} {map : SectorMap} {processes : ProcessTable} {s : State}
         is_stamped y (same ∙ sym h.held.stamps ∙ sym is)
         (subst (λ (t : Tree). HoldsAll p map (placed t))
         (sym (ap (λ (x : Stamps). swept (with_node s.tree n (with_stamps x h.node)) s.processes) same
-        ∙ ap (λ (t : Tree). swept t s.processes) (same_node_stays s.tree n h.node at.is_state.tree.numbers h.there)
+        ∙ ap (λ (t : Tree). swept t s.processes) (same_entry_stays s.tree n h.node at.is_state.tree.numbers h.there)
         ∙ nothing_to_drop s.room s.tree s.processes at.is_state.tree (at.is_state.processes at.up))) at.holds)
 
     pub no_times : keeps_times p.version ≡ false → then ≡ h.node.stamps
