@@ -6,6 +6,9 @@ use Rattle.sector_disk.proofs.Parted.{one_of_run}
 use Rattle.sector_disk.proofs.Recorded.{recorded}
 use Rattle.sector_disk.proofs.part_file.load_run.Goals as goal
 
+pub returns-then-is_err-clause-same : goal.returns-then-is_err-clause-same
+returns-then-is_err-clause-same g c = c.read_run.ensures.same
+
 pub returns-then-is_err-clause-follows : goal.returns-then-is_err-clause-follows
 returns-then-is_err-clause-follows g c =
     subst (λ (f : Option Held). IsPart f c.args.sectors.now.shown c.args.loaded.now) (sym c.read_run.ensures.same) c.requires.follows

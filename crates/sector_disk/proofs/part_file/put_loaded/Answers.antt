@@ -4,6 +4,9 @@ use Rattle.std.proofs.lemmas.List.{set-set, set-get_or}
 use Rattle.sector_disk.specs.Places.{KeptSectors}
 use Rattle.sector_disk.proofs.part_file.put_loaded.Goals as goal
 
+pub returns-clause-loaded : goal.returns-clause-loaded
+returns-clause-loaded c = c.in_ok-add.ensures.ok
+
 pub returns-in-Err-clause-same : goal.returns-in-Err-clause-same
 returns-in-Err-clause-same c =
     let loaded = c.args.loaded.now in
