@@ -150,8 +150,8 @@ fn replay<D: Disk>(disk: &mut D, header: u32, area: u32, sectors: &[u32]) -> Res
 /// Syncs, takes the commit away, and syncs. Each image reads as before.
 pub(crate) fn settle_commit<D: Disk>(disk: &mut D) -> Result<(), DiskFault>
     requires { IsReady (D.state disk.old) }
-    ensures idle { OnOk result (IsIdle (D.state disk.new)) }
     ensures any_moment { LeavesSameMap (D.state disk.old) (D.state disk.new) }
+    ensures idle { OnOk result (IsIdle (D.state disk.new)) }
     ensures size { (D.state disk.new).size ≡ (D.state disk.old).size }
     ensures cause { HasCause (D.state disk.old) (D.state disk.new) result }
     ensures told { HasWriteCause (D.state disk.old) (D.state disk.new) result }

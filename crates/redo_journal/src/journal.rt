@@ -200,8 +200,8 @@ impl<D: Disk> Journal<D> {
         self.disk.find(n)
     }
 
-    /// The layout that sector 0 tells of, where the disk has that sector in memory and is as large as the layout. On a disk without header
-    /// sectors, as versions 1 and 2 are, none is told: all that a commit changes there goes through the log.
+    /// The layout that sector 0 tells of, where the disk has that sector in memory and is as large as the layout. Of versions 1 and 2, which
+    /// have no header sectors, none is told: all that a commit changes there goes through the log.
     pub fn layout(&self) -> Option<Geometry>
         ensures told { IfSome result (λ p. HasLayout (data_of (D.state self.now)) p × (p.sectors ≤ (D.state self.now).size)) }
         ensures alone { header_at (D.state self.now).seen ≡ 0 → result ≡ None }
