@@ -214,7 +214,7 @@ impl Commit {
         get_u32s(from, 0, &mut self.targets[start..start + HEADER_TARGETS]);
     }
 
-    /// Writes the sector of a commit without a header, which has all targets; `at` is 0.
+    /// Writes the sector of a commit without a header: it has room for all targets. `at` is 0.
     pub fn write_to(&self, to: &mut [u8; 512], at: usize)
         requires whole { at ≡ 0 }
         requires few { length self.now ≤ MAX_TARGETS }

@@ -29,8 +29,8 @@ pub fn numbers_of_64_bits()
     ensures { AreNumbersAsBytes 8 le64 u64_of }
 {}
 
-/// What is written is read: each value that fits its fields is read again from the bytes that it is written as. It is the same with an
-/// inode as of versions 1 and 2, which has no times, and with a slot of each version.
+/// What is written is read: each value that fits its fields is read again from the bytes that it is written as, wherever they stand.
+/// An inode that fits versions 1 and 2, and so has no times, is read as one of theirs too.
 pub fn what_is_written_is_read()
     ensures superblock { AreReadAgain 512 FitsSuper super_bytes super_of }
     ensures commit { AreReadAgain 512 FitsCommit commit_bytes commit_of }

@@ -29,8 +29,8 @@ pub record LeavesOneOf (before after : SectorMap) (old new : DiskState) : Type 0
 abbrev pub LeavesOldOr : SectorMap → DiskState → DiskState → Type 0
 LeavesOldOr sectors old new = LeavesOneOf sectors sectors old new
 
--- no more sectors wait than the commit sector names, and a stop at any moment since old leaves what reads as old does, or as that with all of
--- them: in each sector, also in those that are free
+-- no more sectors wait than a commit sector has targets, and a stop at any moment since old leaves what reads as old does, or as that with all
+-- of them, also in free sectors
 pub record LogsAll (waiting : List Entry) (old new : DiskState) : Type 0 where
   pub few : length waiting ≤ MAX_TARGETS
   pub any_moment : LeavesAllOrNone waiting old new

@@ -139,7 +139,7 @@ impl<D: Disk> Store<D> {
         // A stop at any moment of the call leaves what means as before it, or reads as the store.
         ensures images { LeavesOldOr (present D.state self) (D.state self.disk) (D.state (disk_after result)) }
 
-        // On a disk whose log has one area all that waits goes through it: it leaves all of it or nothing, in free sectors too.
+        // Where the log has one area, all that waits goes through it: a stop leaves all of it or nothing, in free sectors too.
         ensures alone { header_at (D.state self.disk).seen ≡ 0 → LogsAll self.waiting (D.state self.disk) (D.state (disk_after result)) }
 
         // From `Ok` on it leaves what reads as the store.
@@ -177,7 +177,7 @@ impl<D: Disk> Store<D> {
         // A stop at any moment of the call leaves what means as before it, or reads as the store.
         ensures images { LeavesOldOr (present D.state self) (D.state self.disk) (D.state (disk_of result)) }
 
-        // On a disk whose log has one area all that waits goes through it: it leaves all of it or nothing, in free sectors too.
+        // Where the log has one area, all that waits goes through it: a stop leaves all of it or nothing, in free sectors too.
         ensures alone { header_at (D.state self.disk).seen ≡ 0 → LogsAll self.waiting (D.state self.disk) (D.state (disk_of result)) }
 
         // From `Ok` on it leaves what reads as the store.
@@ -248,7 +248,7 @@ impl<D: Disk> Txn<D> {
         // or with all of them.
         ensures images { LeavesOneOf (map_before D.state self) (map_now D.state self) (D.state self.disk) (D.state (disk_after result)) }
 
-        // On a disk whose log has one area what is committed goes through it: it leaves all of it or nothing, in free sectors too.
+        // Where the log has one area, all that waits goes through it: a stop leaves all of it or nothing, in free sectors too.
         ensures alone { header_at (D.state self.disk).seen ≡ 0 → LogsAll self.waiting (D.state self.disk) (D.state (disk_after result)) }
 
         // Without changes the disk isn't called.

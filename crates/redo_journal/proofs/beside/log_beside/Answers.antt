@@ -35,14 +35,6 @@ returns-in_err-write_targets-clause-any_moment g c =
     (beside_keeps sectors c.args.header c.args.area old c.requires.ready c.requires.header c.requires.next c.requires.places)
     c.write_targets.ensures.any_moment
 
-pub returns-clause-any_moment : goal.returns-clause-any_moment
-returns-clause-any_moment g c =
-    let old = g.D.Disk.state c.args.disk.now in
-    let sectors = targets c.args.placed.now.entries in
-    logged_leaves sectors c.args.header c.args.area old (g.D.Disk.state c.write_targets.new.disk)
-    (beside_keeps sectors c.args.header c.args.area old c.requires.ready c.requires.header c.requires.next c.requires.places)
-    c.write_targets.ensures.any_moment (g.D.Disk.state c.log_batch.new.disk) c.write_targets.ensures.adds c.log_batch.ensures.any_moment
-
 pub returns-clause-logged : goal.returns-clause-logged
 returns-clause-logged g c =
     let state = g.D.Disk.state in
@@ -55,6 +47,14 @@ returns-clause-logged g c =
     has.ready has.header has.next has.places has.beside whole wrote.written wrote.others logs.others
     has.few c.len-count.ensures.batch has.on_disk (logs.adds.size ∙ c.write_targets.ensures.adds.size) (g.met.D.Disk.seen_is_image c.log_batch.new.disk).size)
     logs.header logs.log logs.stable
+
+pub returns-clause-any_moment : goal.returns-clause-any_moment
+returns-clause-any_moment g c =
+    let old = g.D.Disk.state c.args.disk.now in
+    let sectors = targets c.args.placed.now.entries in
+    logged_leaves sectors c.args.header c.args.area old (g.D.Disk.state c.write_targets.new.disk)
+    (beside_keeps sectors c.args.header c.args.area old c.requires.ready c.requires.header c.requires.next c.requires.places)
+    c.write_targets.ensures.any_moment (g.D.Disk.state c.log_batch.new.disk) c.write_targets.ensures.adds c.log_batch.ensures.any_moment
 
 pub returns-clause-placed : goal.returns-clause-placed
 returns-clause-placed g c =
