@@ -1,15 +1,15 @@
 -- Processes and their open file descriptions: POSIX.1-2017, Base Definitions (Process, Open File
 -- Description).
 --     Descriptor, Process, ProcessTable        an open file; a process; all processes
---     new_process        a process as it begins
+--     new_process, IsNewPid        a process as it begins, and its number
 --     cwd_of, standing_at        where its walks start
 --     descriptor, the_descriptor, with_descriptor, with_offset, least_unused        one descriptor of a process
 --     is_open, starts_at, is_in_use        who uses a node
-use Rattle.std.specs.Prelude.{ℕ, ◌+◌, ◌==◌, Bool, false, ◌||◌, List, [], ◌∷◌, if◌then◌else◌, Option, unwrap_or}
+use Rattle.std.specs.Prelude.{◌≡◌, ℕ, ◌+◌, ◌≤◌, ◌==◌, Bool, false, ◌||◌, List, [], ◌∷◌, if◌then◌else◌, Option, None, unwrap_or}
 use Rattle.std.specs.List.{list_any}
 use Rattle.std.specs.Ordering.{nat_cmp}
 use Rattle.fs_cred.specs.Credentials.{Credential}
-use Rattle.fs_model.specs.Limits.{root}
+use Rattle.fs_model.specs.Limits.{root, processes_limit}
 use Rattle.fs_layout.specs.Maps.{get, with_entry}
 
 -- the node, the offset, what it was opened for, and O_APPEND
@@ -35,6 +35,10 @@ ProcessTable = List (ℕ × Process)
 -- our own rule: at the root, with umask 022 and nothing open
 abbrev pub new_process : Credential → Process
 new_process cred = record { cred = cred; umask = 18; cwd = root; second_cwd = root; descriptors = [] }
+
+-- our own rule: a new process gets a number from 1 to 64 that no process has
+abbrev pub IsNewPid : ProcessTable → ℕ → Type 0
+IsNewPid processes pid = (1 ≤ pid) × (pid ≤ processes_limit) × (get nat_cmp processes pid ≡ None)
 
 -- the directory in which walk k starts, where its path isn't absolute
 abbrev pub cwd_of : Process → ℕ → ℕ

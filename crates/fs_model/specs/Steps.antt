@@ -24,7 +24,7 @@ use Rattle.fs_model.specs.declared.touch.Touch.TheVariants.{Untouched}
 use Rattle.fs_model.specs.Nodes.{Node, stamped}
 use Rattle.fs_model.specs.Births.{the_node}
 use Rattle.fs_model.specs.Trees.{Tree, Room, node_at, free_inodes}
-use Rattle.fs_model.specs.Processes.{Process, ProcessTable, new_process, cwd_of, standing_at}
+use Rattle.fs_model.specs.Processes.{Process, ProcessTable, new_process, IsNewPid, cwd_of, standing_at}
 use Rattle.fs_model.specs.TreeChanges.{Change, Same, Rewrite, Make, changed, touches, touched, swept}
 use Rattle.fs_model.specs.States.{State, MayBeFree}
 use Rattle.fs_model.specs.Demands.{Demand, refuse, first_of}
@@ -180,9 +180,9 @@ abbrev pub HasNewNumber : State → Change → Type 0
 HasNewNumber s (Make dir_ino name n node) = (1 ≤ n) × (n < s.room.inodes) × (node_at s.tree n ≡ None)
 HasNewNumber s _ = Unit {0}
 
--- a new process gets an unused number
+-- a new process gets a new number
 abbrev pub HasNewPid : State → Event → ℕ → Type 0
-HasNewPid s (Spawn cred) pid = get nat_cmp s.processes pid ≡ None
+HasNewPid s (Spawn cred) pid = IsNewPid s.processes pid
 HasNewPid s _ pid = Unit {0}
 
 pub record IsAllowedChoice (s : State) (e : Event) (choice : Choice) : Type 0 where

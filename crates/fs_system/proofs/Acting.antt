@@ -12,7 +12,7 @@ use Rattle.fs_model.specs.declared.reply.Reply.TheVariants.{Done, Pid, Space, Re
 use Rattle.fs_model.specs.declared.event.Event.{Event}
 use Rattle.fs_model.specs.declared.event.Event.TheVariants.{Call as Calls, Spawn, Exit, Enter, Stamp, Clock, Fsync, Sync, Statfs, Arm, Restart}
 use Rattle.fs_model.specs.Trees.{Tree, free_inodes}
-use Rattle.fs_model.specs.Processes.{Process, ProcessTable, new_process, descriptor, is_open}
+use Rattle.fs_model.specs.Processes.{Process, ProcessTable, new_process, IsNewPid, descriptor, is_open}
 use Rattle.fs_model.specs.TreeChanges.{Same, swept}
 use Rattle.fs_model.specs.States.{State, IsState, MayBeFree}
 use Rattle.fs_model.specs.Steps.{Step, Choice, After, HasNewNumber, HasNewPid, Acts, is_of_machine, firm_refusal, other_refusal, after, tree_after}
@@ -94,10 +94,10 @@ module _ (s : State) (up : IsFalse s.halted) (cred : Credential) where
       any_with_entry (has_open n) s.processes pid (new_process cred) is.pids
       ∙ sym (ap (λ (d : ProcessTable). is_open d n) (absent s.processes pid is.pids new)) ∙ was
 
-  pub spawns : (is : IsState s) (pid : ℕ) → get nat_cmp s.processes pid ≡ None → length s.processes < 64
+  pub spawns : (is : IsState s) (pid : ℕ) → IsNewPid s.processes pid → length s.processes < 64
       → Step s (Spawn cred) (Pid pid) (record s { processes = with_entry nat_cmp s.processes pid (new_process cred) })
   spawns is pid new few =
-      acts_alone s is up (Spawn cred) pid (Pid pid) (with_entry nat_cmp s.processes pid (new_process cred)) s.now (spawn_stays is pid new) refl
+      acts_alone s is up (Spawn cred) pid (Pid pid) (with_entry nat_cmp s.processes pid (new_process cred)) s.now (spawn_stays is pid new.2) refl
       (spawn_firm few) spawn_other (spawn_after pid) new
 
   full : 64 ≤ length s.processes → firm_refusal s (Spawn cred) ≡ Some (Failed EAGAIN)

@@ -20,7 +20,7 @@ use Rattle.fs_model.specs.declared.reply.Reply.{Reply}
 use Rattle.fs_model.specs.declared.reply.Reply.TheVariants.{Done, Refused}
 use Rattle.fs_model.specs.declared.event.Event.{Event}
 use Rattle.fs_model.specs.declared.event.Event.TheVariants.{Spawn, Clock, Fsync, Sync}
-use Rattle.fs_model.specs.Processes.{Process, ProcessTable, Descriptor, new_process, descriptor}
+use Rattle.fs_model.specs.Processes.{Process, ProcessTable, Descriptor, new_process, IsNewPid, descriptor}
 use Rattle.fs_model.specs.States.{State, IsState}
 use Rattle.fs_model.specs.Steps.{Step, is_of_machine, firm_refusal}
 use Rattle.fs_model.specs.Stops.{is_io_error}
@@ -109,14 +109,14 @@ module _ {D : Type 0} (state : D → DiskState) where
     -- ---- spawn
 
     module _ (fs : System D) (up : is_halted fs.base ≡ false) (cred : Credential) (valid : IsCredential cred) (processes : ProcessTable) (few : length fs.processes < 64) where
-      pub spawn_made : (pid : ℕ) → get nat_cmp fs.processes pid ≡ None → processes ≡ with_entry nat_cmp fs.processes pid (new_process cred)
+      pub spawn_made : (pid : ℕ) → IsNewPid fs.processes pid → processes ≡ with_entry nat_cmp fs.processes pid (new_process cred)
           → Happens state fs (record fs { processes = processes }) (Spawn cred) (spawned (Ok pid))
       spawn_made pid new is =
           moves fs up processes fs.time (Spawn cred) (spawned (Ok pid))
           (λ s is_state runs same told size map on.
-          let none : get nat_cmp s.processes pid ≡ None = ap (λ d. get nat_cmp d pid) same ∙ new in
+          let unused : IsNewPid s.processes pid = subst (λ d. IsNewPid d pid) (sym same) new in
           let less : length s.processes < 64 = (let count : length s.processes ≡ length fs.processes = ap length same in omega (arith, count, few)) in
-          let step = spawns s runs cred is_state pid none less in
+          let step = spawns s runs cred is_state pid unused less in
           let t : State = record s { processes = with_entry nat_cmp s.processes pid (new_process cred) } in
           let t_is : IsState t = steps_keep s t (Spawn cred) (spawned (Ok pid)) is_state valid step in (
             t,
@@ -152,16 +152,16 @@ module _ {D : Type 0} (state : D → DiskState) where
 
     -- whatever the table of processes answers
     pub spawn_happens : (fs : System D) → is_halted fs.base ≡ false → (cred : Credential) → IsCredential cred → (processes : ProcessTable) (result : Result ℕ Errno)
-        → IfOk result (λ pid. get nat_cmp fs.processes pid ≡ None)
+        → IfOk result (λ pid. IsNewPid fs.processes pid)
         → IfOk result (λ pid. processes ≡ with_entry nat_cmp fs.processes pid (new_process cred))
         → (result ≡ Err EAGAIN) ↔ (64 ≤ length fs.processes)
         → IfErr result (λ errno. (errno ≡ EAGAIN) ⊎ (errno ≡ ENOMEM))
         → OnErr result (processes ≡ fs.processes) → Happens state fs (record fs { processes = processes }) (Spawn cred) (spawned result)
-    spawn_happens fs up cred valid processes (Ok pid) unused added full refused same = elim (cases_lt (length fs.processes) 64) [
-      | inl few ↦ spawn_made fs up cred valid processes few pid unused added
+    spawn_happens fs up cred valid processes (Ok pid) number added full refused same = elim (cases_lt (length fs.processes) 64) [
+      | inl few ↦ spawn_made fs up cred valid processes few pid number added
       | inr many ↦ absurd (let c = full.1 many in cc)
     ]
-    spawn_happens fs up cred valid processes (Err errno) unused added full refused same = elim refused [
+    spawn_happens fs up cred valid processes (Err errno) number added full refused same = elim refused [
       | inl again ↦
           let many : 64 ≤ length fs.processes = full.0 (ap (λ (x : Errno). Err x) again) in
           subst (λ (x : Errno). Happens state fs (record fs { processes = processes }) (Spawn cred) (spawned (Err x))) (sym again) (spawn_refused fs up cred processes many same)
@@ -301,7 +301,7 @@ module _ {D : Type 0} (state : D → DiskState) where
 
         -- spawn
         module _ (cred : Credential) (valid : IsCredential cred) (processes : ProcessTable) (result : Result ℕ Errno)
-            (unused : IfOk result (λ pid. get nat_cmp procs pid ≡ None))
+            (number : IfOk result (λ pid. IsNewPid procs pid))
             (added : IfOk result (λ pid. processes ≡ with_entry nat_cmp procs pid (new_process cred)))
             (full : (result ≡ Err EAGAIN) ↔ (64 ≤ length procs))
             (refused : IfErr result (λ errno. (errno ≡ EAGAIN) ⊎ (errno ≡ ENOMEM)))
@@ -309,12 +309,12 @@ module _ {D : Type 0} (state : D → DiskState) where
           pub spawn_returns : Happens state fs (record { base = base; geometry = geometry; processes = processes; time = time }) (Spawn cred) (spawned result)
           spawn_returns =
               subst (λ (x : System D). Happens state x (record { base = base; geometry = geometry; processes = processes; time = time }) (Spawn cred) (spawned result)) view_is
-              (spawn_happens inside up_inside cred valid processes result unused added full refused same)
+              (spawn_happens inside up_inside cred valid processes result number added full refused same)
 
           pub spawn_system : IsSystem state (record { base = base; geometry = geometry; processes = procs; time = time }) → IsSystem state (record { base = base; geometry = geometry; processes = processes; time = time })
           spawn_system was =
               system_then inside (record { base = base; geometry = geometry; processes = processes; time = time }) (Spawn cred) (spawned result)
-              (spawn_happens inside up_inside cred valid processes result unused added full refused same) was was.mountable
+              (spawn_happens inside up_inside cred valid processes result number added full refused same) was was.mountable
 
       -- where a commit has failed
       pub last_halted : (broken : D) → base ≡ Halted broken → (disk : D) → disk ≡ broken → HappensLast state fs disk Sync (Refused (Failed EIO))

@@ -175,7 +175,7 @@ impl<D: Disk + Drop> Fs<D> {
         self.base.is_halted()
     }
 
-    /// A new process. Its number is not that of another one; numbers begin with 1.
+    /// A new process. Its number is not that of another one, and is from 1 to 64.
     ///
     /// # Errors
     ///

@@ -8,7 +8,7 @@ ghost use Rattle.slab.specs.Slab.{entries_from};
 ghost use Rattle.fs_layout.specs.Maps.{get, with_entry, without};
 ghost use Rattle.fs_model.specs.Limits.{descriptors_limit, processes_limit};
 ghost use Rattle.open_files.specs.Tables.{AreDescriptors, lowest, answer_of, open_in, slot_in, IsUnused, with_changed, without_descriptor, IsTable};
-ghost use Rattle.fs_model.specs.Processes.{new_process, standing_at, starts_at, descriptor, with_descriptor, with_offset, is_open, is_in_use};
+ghost use Rattle.fs_model.specs.Processes.{new_process, IsNewPid, standing_at, starts_at, descriptor, with_descriptor, with_offset, is_open, is_in_use};
 ghost use Rattle.fs_cred.specs.declared.errno.Errno.TheVariants.{ESRCH, EAGAIN, ENOMEM};
 
 use fs_cred::{Cred, Errno};
@@ -353,11 +353,11 @@ impl Procs {
         self.slab.len() >= MAX_PROCESSES
     }
 
-    /// Adds a process, and answers its number. `EAGAIN`: there are 64. `ENOMEM`: there is no memory.
+    /// Adds a process, and answers its number, from 1 to 64. `EAGAIN`: there are 64. `ENOMEM`: there is no memory.
     ///
     /// A process stands at the root, with umask 022 and nothing open. No later call on it takes memory.
     pub fn spawn(&mut self, cred: Cred) -> Result<usize, Errno>
-        ensures unused { IfOk result (λ pid. get nat_cmp self.old pid ≡ None) }
+        ensures number { IfOk result (λ pid. IsNewPid self.old pid) }
         ensures added { IfOk result (λ pid. self.new ≡ with_entry nat_cmp self.old pid (new_process cred)) }
         ensures full { (result ≡ Err EAGAIN) ↔ (processes_limit ≤ length self.old) }
         ensures refused { IfErr result (λ errno. (errno ≡ EAGAIN) ⊎ (errno ≡ ENOMEM)) }
@@ -366,7 +366,8 @@ impl Procs {
         if self.is_full() {
             return Err(Errno::EAGAIN);
         }
-        if self.slab.vacant_key() == usize::MAX {
+        // Keys that are free again are given before new ones: so it is below 64. No clause of the slab says so.
+        if self.slab.vacant_key() >= MAX_PROCESSES {
             return Err(Errno::ENOMEM);
         }
         let Ok(key) = self.slab.insert(Process::new(cred)) else {

@@ -13,11 +13,11 @@ invariant_of-self g c =
     let given = c.spawn.ensures in
     spawn_system g.D.Disk.state g.met.D.Disk.only_now c.self.inside.base c.self.inside.geometry c.self.inside.procs c.self.inside.time c.args.self.now c.self.view_is
     (sym c.is_halted.ensures ∙ c.if-is_halted.false) c.args.cred (subst IsCredential c.cred.view_is c.cred.invariant) c.spawn.new.self c.spawn.result
-    given.unused given.added given.full given.refused given.same c.self.invariant
+    given.number given.added given.full given.refused given.same c.self.invariant
 
 pub returns-clause-does : goal.returns-clause-does
 returns-clause-does g c =
     let given = c.spawn.ensures in
     spawn_returns g.D.Disk.state g.met.D.Disk.only_now c.self.inside.base c.self.inside.geometry c.self.inside.procs c.self.inside.time c.args.self.now c.self.view_is
     (sym c.is_halted.ensures ∙ c.if-is_halted.false) c.args.cred (subst IsCredential c.cred.view_is c.cred.invariant) c.spawn.new.self c.spawn.result
-    given.unused given.added given.full given.refused given.same
+    given.number given.added given.full given.refused given.same

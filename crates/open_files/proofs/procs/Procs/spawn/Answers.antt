@@ -1,5 +1,5 @@
 use Rattle.std.specs.Prelude.{Result, Ok, Err}
-use Rattle.std.proofs.Common.{◌≡◌, ℕ, ◌<◌, ap, refl, sym, ◌∙◌, length, ◌+◌, inl, inr}
+use Rattle.std.proofs.Common.{◌≡◌, ℕ, ◌<◌, ap, refl, sym, ◌∙◌, length, ◌+◌, inl, inr, arith}
 use Rattle.std.proofs.lemmas.Bool.{cases_lt, true≢false}
 use Rattle.fs_cred.specs.declared.errno.Errno.{Errno}
 use Rattle.fs_cred.specs.declared.errno.Errno.TheVariants.{EAGAIN, ENOMEM}
@@ -17,8 +17,8 @@ answers r n is again = cc
 pub returns-then-is_full-clause-full : goal.returns-then-is_full-clause-full
 returns-then-is_full-clause-full c = (λ _. c.is_full.ensures.0 c.if-is_full.true, λ _. refl)
 
-pub returns-then-vacant_key-clause-full : goal.returns-then-vacant_key-clause-full
-returns-then-vacant_key-clause-full c = (λ e. absurd (lacks_memory _ refl e), λ many. absurd (true≢false (sym (c.is_full.ensures.1 many) ∙ c.if-is_full.false)))
+pub returns-then-vacant_key-ge-MAX_PROCESSES-clause-full : goal.returns-then-vacant_key-ge-MAX_PROCESSES-clause-full
+returns-then-vacant_key-ge-MAX_PROCESSES-clause-full c = (λ e. absurd (lacks_memory _ refl e), λ many. absurd (true≢false (sym (c.is_full.ensures.1 many) ∙ c.if-is_full.false)))
 
 pub returns-in_default-clause-full : goal.returns-in_default-clause-full
 returns-in_default-clause-full c = (λ e. absurd (lacks_memory _ refl e), λ many. absurd (true≢false (sym (c.is_full.ensures.1 many) ∙ c.if-is_full.false)))
@@ -36,8 +36,15 @@ invariant_of-self-2 c =
     (record { here = c.in-Ok.ensures.updates.changed; others = c.in-Ok.ensures.updates.others }) c.in-Ok.ensures.was_vacant
     few c.new.ensures.kept
 
-pub returns-clause-unused : goal.returns-clause-unused
-returns-clause-unused c = at_key c.self.inside.slab.slots c.args.self.now c.self.view_is c.in-Ok.key ∙ c.in-Ok.ensures.was_vacant
+pub returns-clause-number : goal.returns-clause-number
+returns-clause-number c =
+    let below = c.if-vacant_key-ge-MAX_PROCESSES.false in
+    let given = c.in-Ok.ensures.key in
+    let vacant = c.vacant_key.ensures.value in (
+      omega arith,
+      omega (arith, below, given, vacant),
+      at_key c.self.inside.slab.slots c.args.self.now c.self.view_is c.in-Ok.key ∙ c.in-Ok.ensures.was_vacant,
+    )
 
 pub returns-clause-added : goal.returns-clause-added
 returns-clause-added c =
