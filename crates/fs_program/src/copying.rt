@@ -108,7 +108,7 @@ fn packed_end(packed: Result<Copied, CopyFault>, errno: Option<Errno>) -> Result
     }
 }
 
-/// Mounts a disk, copies the tree of its file system to the host, and unmounts it.
+/// Mounts a disk, copies the tree of its file system to the host, and unmounts it. The tree stays on the disk as it was mounted.
 pub(crate) fn unpack_on_disk<R: Files + AllocGlobal, D: Disk + Drop, E: Write>(
     rt: &R,
     disk: D,
