@@ -24,7 +24,7 @@ use fs_command::{Job, Status, Text, WordsFault, parse_words};
 use fs_images::{MkfsFault, newest_layout, older_layout};
 use fs_layout::{Geometry, Version};
 use fs_shell::Watched;
-use fuse_serving::Standard;
+use fuse_serving::{ProcFiles, Standard};
 use host_trees::{CopyFault, Given};
 use sector_disk::{Disk, DiskFile, FileDisk, FileFault, MemDisk, PartDisk, PartFile};
 use std::fs::{self, OpenOptions};
@@ -324,7 +324,7 @@ fn serve_image<
 {
     let disk = open_image(rt, image)?;
     let mut witness = DenialList::new(rt.alloc(), open_denials(rt, denials)?);
-    let mut kernel = Standard::new(rt, input, out);
+    let mut kernel = Standard::new(rt, ProcFiles::new(rt), input, out);
     serve_on_disk(rt.alloc(), disk, own_rules, &mut kernel, &mut witness, err)
 }
 

@@ -36,10 +36,11 @@ module _ {K : Type 0} (Does : K → Exchange → K → Type 0) where
   tells_one old new unique (Fails e) bytes taken is same does = told old new bytes (response_bytes unique (Fails e)) taken same does
 
   -- where the process counts, it is asked about
-  pub learns_one : (old new : K) (who : WhoCounts) (spoken : WireRequest) (caller : Caller) → who ≡ Process → Does old (Learns spoken.pid caller) new
-      → Passes Does old (asks_for who spoken caller) new
+  pub learns_one : (old new : K) (who : WhoCounts) (spoken : WireRequest) (caller : Caller) → who ≡ Process
+      → Does old (Learns spoken.pid spoken.uid spoken.gid caller) new → Passes Does old (asks_for who spoken caller) new
   learns_one old new who spoken caller is does =
-      subst (λ (w : WhoCounts). Passes Does old (asks_for w spoken caller) new) (sym is) (passes_more (Learns spoken.pid caller) [] old new new does (passes_none new))
+      subst (λ (w : WhoCounts). Passes Does old (asks_for w spoken caller) new) (sym is)
+      (passes_more (Learns spoken.pid spoken.uid spoken.gid caller) [] old new new does (passes_none new))
 
 -- ---- of whom it is known
 

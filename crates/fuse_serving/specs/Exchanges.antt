@@ -13,8 +13,8 @@ pub data Exchange : Type 0 where
   ReadsEnd : Exchange
   -- one write, which is one reply, and whether it was taken: not where nobody waits for it any more
   Writes : List ℕ → Bool → Exchange
-  -- what is known of the process with this number
-  Learns : ℕ → Caller → Exchange
+  -- what is known of the process with this number, as which a user with a group asks
+  Learns : ℕ → ℕ → ℕ → Caller → Exchange
   -- the present time
   SeesTime : Time → Exchange
 

@@ -1,4 +1,5 @@
 pub mod Exchanges
 pub mod Rounds
 pub mod Pieces
+pub mod Processes
 pub mod Status

@@ -55,7 +55,7 @@ caller_in outside = record { groups = outside.groups; caps = outside.caps }
 
 -- Only where the process counts it is asked about.
 abbrev pub asks_for : WhoCounts → WireRequest → Caller → List Exchange
-asks_for Process spoken caller = Learns spoken.pid caller ∷ []
+asks_for Process spoken caller = Learns spoken.pid spoken.uid spoken.gid caller ∷ []
 asks_for _ spoken caller = []
 
 -- of a user alone there are no groups and no capabilities

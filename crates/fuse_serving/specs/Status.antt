@@ -3,11 +3,13 @@
 --     SaysNumber, SaysIds        digits, and numbers with spaces between them
 --     SaysGroups, SaysCaps        the supplementary groups; which capabilities are in effect
 --     SaysLastId, ActsAs        as which user and group it acts on files
-use Rattle.std.specs.Prelude.{◌≡◌, ℕ, ◌^◌, ◌<◌, ◌==◌, Bool, List, [], ◌∷◌, ◌++◌, codes, bit_and, Contains, drop, ◌+◌}
+--     IsSaid        what is known of it is what the text says
+use Rattle.std.specs.Prelude.{◌≡◌, ℕ, ◌^◌, ◌<◌, ◌==◌, Bool, List, [], ◌∷◌, ◌++◌, codes, bit_and, Contains, drop, ◌+◌, ◌⊎◌, IfSome}
 use Rattle.std.specs.List.{slice_split, slice_index}
 use Rattle.std.specs.Str.Parse.{IsNumeral, digits_value, without_leading_plus}
 use Rattle.fs_cred.specs.declared.caps.Caps.{Caps}
-use Rattle.fs_cred.specs.Capabilities.{all_caps}
+use Rattle.fs_cred.specs.Capabilities.{no_caps, all_caps}
+use Rattle.fuse_serving.specs.declared.caller.Caller.{Caller}
 
 abbrev pub ends_line : ℕ → Bool
 ends_line byte = byte == 10
@@ -72,3 +74,10 @@ pub record SaysCaps (text : List ℕ) (caps : Caps) : Type 0 where
   pub bits : ℕ
   pub number : SaysNumber 64 16 rest bits
   pub those : caps.0 ≡ bit_and bits all_caps.0
+
+-- A process that acts on files as this user and this group is known. Its groups are all that the text says, where they are known, and
+-- its capabilities are those of the text, or none.
+pub record IsSaid (text : List ℕ) (uid gid : ℕ) (caller : Caller) : Type 0 where
+  pub acts : ActsAs text uid gid
+  pub groups : IfSome caller.groups (SaysGroups text)
+  pub caps : (caller.caps ≡ no_caps) ⊎ SaysCaps text caller.caps

@@ -26,7 +26,7 @@ pub trait Kernel {
 
     /// What is known of the process with this number, as which this user with this group asks.
     fn caller(&mut self, pid: u32, uid: u32, gid: u32) -> Caller
-        ensures { Does self.old (Learns pid result) self.new };
+        ensures { Does self.old (Learns pid uid gid result) self.new };
 
     /// The present time.
     fn now(&mut self) -> io::Result<Time>

@@ -1,6 +1,6 @@
 //! What the streams of a process and /proc tell a server: no clause says any of it.
 use bitflags::Flags;
-use fuse_serving::{Caller, Kernel, Standard, caller_of_status};
+use fuse_serving::{Caller, Kernel, ProcFiles, Standard, caller_of_status};
 use std::alloc::{AllocError, Global};
 use std::io::{self, ErrorKind, Read, Write};
 use std::test::Fail;
@@ -65,8 +65,8 @@ fn kernel_at(
     rt: HostRuntime,
     turns: &'static [Turn],
     output: Output,
-) -> Standard<HostRuntime, Input, Output> {
-    Standard::new(rt, Input { turns, next: 0 }, output)
+) -> Standard<HostRuntime, ProcFiles<HostRuntime>, Input, Output> {
+    Standard::new(rt, ProcFiles::new(rt), Input { turns, next: 0 }, output)
 }
 
 // How many bytes each of three reads had: nothing at the end, and nothing at all where it failed.
