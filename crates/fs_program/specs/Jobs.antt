@@ -41,14 +41,16 @@ use Rattle.fs_images.specs.declared.faults.UpgradeFault.{UpgradeFault}
 use Rattle.fs_images.specs.Upgrading.{IsHalfUpgraded, IsNotUpgraded, IsUpgraded}
 use Rattle.fs_shell.specs.Runs.{Ran}
 use Rattle.fs_shell.specs.declared.answer.Count.{Count}
+use Rattle.fs_shell.specs.declared.runner.Watched.{Watched}
 use Rattle.fs_shell.specs.Watching.{FailsWhere}
 use Rattle.fs_shell.specs.declared.fault.RunFault.{RunFault}
 use Rattle.fs_shell.specs.declared.fault.RunFault.TheVariants.{ReadFault, WriteFault}
+use Rattle.fuse_serving.specs.Processes.{Showing}
 use Rattle.fs_program.specs.Copying.{ImagePackEnds, ImageUnpackEnds}
-use Rattle.fs_program.specs.Serving.{ImageFuseEnds}
+use Rattle.fs_program.specs.Serving.{FuseJobEnds}
 use Rattle.fs_program.specs.Programs.{RunsInMemory}
 use Rattle.fs_command.specs.Statuses.{code_of, status_of}
-use Rattle.fs_program.specs.Streams.{Reading, Writing}
+use Rattle.fs_program.specs.Streams.{Reading, Writing, reading, watched}
 use Rattle.fs_program.specs.Unmounts.{unmount_end}
 use Rattle.fs_program.specs.Texts.{made_text, clean_text, found_text, version_text}
 use Rattle.fs_command.specs.Words.{AsksFor, Refuses, words_status}
@@ -184,12 +186,15 @@ pub data ImageMkfsEnds {D : Type 0} (state : D → DiskState) (version : Version
   is_created : (old now : D) → (state old).size ≡ sectors → MkfsEnds (state old) (state now) version inodes w result
       → ImageMkfsEnds state version sectors inodes w result
 
--- The script is that of the standard input, unless it is in a file.
-pub data ImageRunEnds {D : Type 0} (state : D → DiskState) (script : Option (List ℕ)) (r : Reading) (w : Writing) (result : Result Status Failure) : Type 0 where
-  cannot_open : IsUndone w failures.NotOpened result → ImageRunEnds state script r w result
-  has_no_script : IsSome script → IsUndone w failures.NoScript result → ImageRunEnds state script r w result
-  opens : (disk : D) (own : Reading) → IsFresh (state disk) (state disk).seen → (script ≡ None → own ≡ r)
-      → RunEnds state disk own w result → ImageRunEnds state script r w result
+-- The script is that of the standard input, unless it is in a file: then it is what reads of an open file give.
+pub data ImageRunEnds {D F : Type 0} (state : D → DiskState) (remaining : F → Option (List ℕ)) (script : Option (List ℕ)) (r : Reading) (w : Writing)
+    (result : Result Status Failure) : Type 0 where
+  cannot_open : IsUndone w failures.NotOpened result → ImageRunEnds state remaining script r w result
+  has_no_script : IsSome script → IsUndone w failures.NoScript result → ImageRunEnds state remaining script r w result
+  runs_input : (disk : D) → IsFresh (state disk) (state disk).seen → script ≡ None → RunEnds state disk r w result
+      → ImageRunEnds state remaining script r w result
+  runs_file : (disk : D) (file : F) (after : Watched F) → IsFresh (state disk) (state disk).seen → IsSome script
+      → RunEnds state disk (reading remaining (watched file) after) w result → ImageRunEnds state remaining script r w result
 
 -- Of a disk in part the check has asked for no sector but those that were read of a file: else that disk had failed. What is told is
 -- true of the image of that file, where it's known what it holds.
@@ -212,28 +217,33 @@ pub data ImageUpgradeEnds {D : Type 0} (state : D → DiskState) (w : Writing) (
   upgrades : (old now : D) → IsFresh (state old) (state old).seen → LeavesOnly (state old) (state now) (IsHalfUpgraded (state old))
       → UpgradeEnds (state old) (state now) w result → ImageUpgradeEnds state w result
 
--- A job ends so, on disks in memory and in files, the latter as wholes and in part, by what these hold.
-abbrev pub JobEnds : {M D P F : Type 0} → (M → DiskState) → (D → DiskState) → (P → DiskState) → (F → Option Held) → Reading → Writing → Job
-    → Result Status Failure → Type 0
-JobEnds memory file part held r w Memory result = MemoryEnds memory r w result
-JobEnds memory file part held r w (Mkfs image sectors inodes) result = ImageMkfsEnds file Two sectors inodes w result
-JobEnds memory file part held r w (Format image sectors inodes) result = ImageMkfsEnds file Three sectors inodes w result
-JobEnds memory file part held r w (Pack image from sectors inodes user group) result = (w.after ≡ w.before) × ImagePackEnds file sectors inodes result
-JobEnds memory file part held r w (Unpack image to) result = (w.after ≡ w.before) × ImageUnpackEnds file result
-JobEnds memory file part held r w (Run image script) result = ImageRunEnds file script r w result
-JobEnds memory file part held r w (Check image explain) result = ImageCheckEnds file part held explain w result
-JobEnds memory file part held r w (InfoJob image json) result = ImageInfoEnds file json w result
-JobEnds memory file part held r w (Upgrade image) result = ImageUpgradeEnds file w result
-JobEnds memory file part held r w (Fuse image denials own_rules) result = ImageFuseEnds file denials own_rules result
+-- A job ends so, on disks in memory and in files, the latter as wholes and in part; by what files hold, and what reads of them give; and by
+-- what is shown of processes.
+abbrev pub JobEnds : {M D P F S : Type 0} → (M → DiskState) → (D → DiskState) → (P → DiskState) → (F → Option Held) → (F → Option (List ℕ))
+    → (S → Showing → S → Type 0) → S → Reading → Writing → Job → Result Status Failure → Type 0
+JobEnds memory file part held remaining Shows processes r w Memory result = MemoryEnds memory r w result
+JobEnds memory file part held remaining Shows processes r w (Mkfs image sectors inodes) result = ImageMkfsEnds file Two sectors inodes w result
+JobEnds memory file part held remaining Shows processes r w (Format image sectors inodes) result = ImageMkfsEnds file Three sectors inodes w result
+JobEnds memory file part held remaining Shows processes r w (Pack image from sectors inodes user group) result =
+    (w.after ≡ w.before) × ImagePackEnds file sectors inodes result
+JobEnds memory file part held remaining Shows processes r w (Unpack image to) result = (w.after ≡ w.before) × ImageUnpackEnds file result
+JobEnds memory file part held remaining Shows processes r w (Run image script) result = ImageRunEnds file remaining script r w result
+JobEnds memory file part held remaining Shows processes r w (Check image explain) result = ImageCheckEnds file part held explain w result
+JobEnds memory file part held remaining Shows processes r w (InfoJob image json) result = ImageInfoEnds file json w result
+JobEnds memory file part held remaining Shows processes r w (Upgrade image) result = ImageUpgradeEnds file w result
+JobEnds memory file part held remaining Shows processes r w (Fuse image denials own_rules) result =
+    FuseJobEnds file Shows processes denials own_rules result
 
 -- ---- the program
 
 -- What the program does for its words, and the number that it ends with.
-pub data ProgramEnds {M D P F : Type 0} (memory : M → DiskState) (file : D → DiskState) (part : P → DiskState) (held : F → Option Held)
-    (words : List (List ℕ)) (r : Reading) (w : Writing) (code : ℕ) : Type 0 where
-  does_job : (job : Job) (result : Result Status Failure) → AsksFor words job → JobEnds memory file part held r w job result
-      → code ≡ code_of (ended result) → ProgramEnds memory file part held words r w code
+pub data ProgramEnds {M D P F S : Type 0} (memory : M → DiskState) (file : D → DiskState) (part : P → DiskState) (held : F → Option Held)
+    (remaining : F → Option (List ℕ)) (Shows : S → Showing → S → Type 0) (words : List (List ℕ)) (processes : S) (r : Reading) (w : Writing) (code : ℕ)
+    : Type 0 where
+  does_job : (job : Job) (result : Result Status Failure) → AsksFor words job → JobEnds memory file part held remaining Shows processes r w job result
+      → code ≡ code_of (ended result) → ProgramEnds memory file part held remaining Shows words processes r w code
   -- the help, the version, or what is wrong is printed
-  refuses : (fault : WordsFault) → Refuses words fault → code ≡ code_of (words_status fault) → ProgramEnds memory file part held words r w code
+  refuses : (fault : WordsFault) → Refuses words fault → code ≡ code_of (words_status fault)
+      → ProgramEnds memory file part held remaining Shows words processes r w code
   -- that can't be printed
-  is_mute : (fault : WordsFault) → Refuses words fault → code ≡ code_of Failed → ProgramEnds memory file part held words r w code
+  is_mute : (fault : WordsFault) → Refuses words fault → code ≡ code_of Failed → ProgramEnds memory file part held remaining Shows words processes r w code

@@ -2,7 +2,8 @@
 --     settings_of        what is agreed on with it
 --     served_status        how that ends
 --     ServesOn, FuseEnds        a disk is mounted, served and unmounted
---     ImageFuseEnds        the job
+--     ImageFuseEnds        an image is served to a kernel
+--     FuseJobEnds        the job: to one that knows of who asks what is shown of processes
 use Rattle.std.specs.Prelude.{◌≡◌, ◌-◌, Bool, not, List, ℕ, Option, IsSome, Result, Ok, Err}
 use Rattle.sector_disk.specs.Disk.{DiskState, IsFresh}
 use Rattle.fs_layout.specs.declared.geometry.Geometry.{Geometry}
@@ -18,6 +19,7 @@ use Rattle.fuse_protocol.specs.declared.reply.Time.{Time}
 use Rattle.fuse_state.specs.declared.settings.Settings.{Settings}
 use Rattle.fuse_state.specs.Keepings.{usually_kept}
 use Rattle.fuse_serving.specs.Exchanges.{Exchange, SeesTime}
+use Rattle.fuse_serving.specs.Processes.{Showing, LearnsBy}
 use Rattle.fuse_serving.specs.declared.fault.ServeFault.{ServeFault}
 use Rattle.fs_fuse.specs.Performing.{ServingEnds}
 use Rattle.fs_program.specs.declared.failure.Failure.{Failure}
@@ -70,14 +72,15 @@ pub data FuseEnds {D K : Type 0} (state : D → DiskState) (Does : K → Exchang
   has_served : (served : Result (Unit {0}) ServeFault) (reply : Reply) → ServesOn state Does disk own_rules before after served reply
       → result ≡ unmount_end (served_status served) reply → FuseEnds state Does disk own_rules before after result
 
--- ---- of the kernel at the streams of a process nothing is known
-
-abbrev pub anything_passes : Unit {0} → Exchange → Unit {0} → Type 0
-anything_passes old exchange new = Unit {0}
-
 -- The image is to be served; denials are written to a file, if one is named.
-pub data ImageFuseEnds {D : Type 0} (state : D → DiskState) (denials : Option (List ℕ)) (own_rules : Bool) (result : Result Status Failure) : Type 0 where
-  has_nothing_to_serve : result ≡ Err failures.NotOpened → ImageFuseEnds state denials own_rules result
-  has_no_list : IsSome denials → result ≡ Err failures.NoDenials → ImageFuseEnds state denials own_rules result
-  serves : (disk : D) → IsFresh (state disk) (state disk).seen → FuseEnds state anything_passes disk own_rules tt tt result
-      → ImageFuseEnds state denials own_rules result
+pub data ImageFuseEnds {D K : Type 0} (state : D → DiskState) (Does : K → Exchange → K → Type 0) (denials : Option (List ℕ)) (own_rules : Bool)
+    (before after : K) (result : Result Status Failure) : Type 0 where
+  has_nothing_to_serve : result ≡ Err failures.NotOpened → ImageFuseEnds state Does denials own_rules before after result
+  has_no_list : IsSome denials → result ≡ Err failures.NoDenials → ImageFuseEnds state Does denials own_rules before after result
+  serves : (disk : D) → IsFresh (state disk) (state disk).seen → FuseEnds state Does disk own_rules before after result
+      → ImageFuseEnds state Does denials own_rules before after result
+
+-- It is served at the streams of a process, of which nothing is known but that who asks is who was shown.
+abbrev pub FuseJobEnds : {D S : Type 0} → (D → DiskState) → (S → Showing → S → Type 0) → S → Option (List ℕ) → Bool → Result Status Failure → Type 0
+FuseJobEnds {D} {S} state Shows processes denials own_rules result =
+    (after : S) × ImageFuseEnds state (LearnsBy Shows) denials own_rules processes after result

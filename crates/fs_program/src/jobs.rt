@@ -24,32 +24,41 @@ use fs_command::{Job, Status, Text, WordsFault, parse_words};
 use fs_images::{MkfsFault, newest_layout, older_layout};
 use fs_layout::{Geometry, Version};
 use fs_shell::Watched;
-use fuse_serving::{ProcFiles, Standard};
+use fuse_serving::{Kernel, Processes, Standard};
 use host_trees::{CopyFault, Given};
 use sector_disk::{Disk, DiskFile, FileDisk, FileFault, MemDisk, PartDisk, PartFile};
 use std::fs::{self, OpenOptions};
 use std::io::{ErrorKind, Read, Write};
-use std::os::unix::fs::{FileExt, OpenOptionsExt};
+use std::os::unix::fs::OpenOptionsExt;
 use std::rt::{Clock, Files};
 
 /// Does what the words ask for, the program's name being the first of them, and answers the status.
 ///
 /// A script on the standard input is read from `input`, and replies are written to `out`: whether a call of them fails is
-/// remembered. A text that can't be written is passed over, with status 3.
+/// remembered. A text that can't be written is passed over, with status 3. Who asks on a mount is known by `processes`.
 pub fn perform<
-    R: Files<File: DiskFile + FileExt> + AllocGlobal + Clock,
+    R: Files<File: DiskFile> + AllocGlobal + Clock,
+    P: Processes + Drop,
     I: Read,
     O: Write,
     E: Write,
->(rt: &R, words: &[String], input: &mut Watched<I>, out: &mut Watched<O>, err: &mut E) -> u8
+>(
+    rt: &R,
+    words: &[String],
+    processes: P,
+    input: &mut Watched<I>,
+    out: &mut Watched<O>,
+    err: &mut E,
+) -> u8
     // The words ask for a job, and it has ended with this status; or they ask for none.
     ensures performs { ProgramEnds ⟦<MemDisk as Disk>⟧.state ⟦<FileDisk<R::File> as Disk>⟧.state ⟦<PartDisk<R::File> as Disk>⟧.state
-        R.File.held (map string_bytes words.now) (reading I.remaining input.old input.new) (writing O.contents out.old out.new) result }
+        R.File.held R.File.remaining P.Shows (map string_bytes words.now) processes
+        (reading I.remaining input.old input.new) (writing O.contents out.old out.new) result }
     ensures range { result ≤ 3 }
 {
     match parse_words(rt.alloc(), words) {
         Ok(job) => {
-            let outcome = perform_job(rt, &job, input, out, err);
+            let outcome = perform_job(rt, &job, processes, input, out, err);
             finish(outcome, err).code()
         }
         Err(fault) => refuse(&fault, out, err).code(),
@@ -67,19 +76,21 @@ fn refuse<O: Write, E: Write>(fault: &WordsFault, out: &mut Watched<O>, err: &mu
 }
 
 fn perform_job<
-    R: Files<File: DiskFile + FileExt> + AllocGlobal + Clock,
+    R: Files<File: DiskFile> + AllocGlobal + Clock,
+    P: Processes + Drop,
     I: Read,
     O: Write,
     E: Write,
 >(
     rt: &R,
     job: &Job,
+    processes: P,
     input: &mut Watched<I>,
     out: &mut Watched<O>,
     err: &mut E,
 ) -> Result<Status, Failure>
     ensures { JobEnds ⟦<MemDisk as Disk>⟧.state ⟦<FileDisk<R::File> as Disk>⟧.state ⟦<PartDisk<R::File> as Disk>⟧.state
-        R.File.held (reading I.remaining input.old input.new) (writing O.contents out.old out.new) job.now result }
+        R.File.held R.File.remaining P.Shows processes (reading I.remaining input.old input.new) (writing O.contents out.old out.new) job.now result }
 {
     match job {
         Job::Memory => {
@@ -120,7 +131,10 @@ fn perform_job<
             image,
             denials,
             own_rules,
-        } => serve_image(rt, image, denials.as_ref(), *own_rules, input, out, err),
+        } => {
+            let mut kernel = Standard::new(rt, processes, input, out);
+            serve_image(rt, image, denials.as_ref(), *own_rules, &mut kernel, err)
+        }
     }
 }
 
@@ -227,7 +241,7 @@ fn run_image<R: Files<File: DiskFile> + AllocGlobal, I: Read, O: Write, E: Write
     out: &mut Watched<O>,
     err: &mut E,
 ) -> Result<Status, Failure>
-    ensures { ImageRunEnds ⟦<FileDisk<R::File> as Disk>⟧.state (option_copied script.entry)
+    ensures { ImageRunEnds ⟦<FileDisk<R::File> as Disk>⟧.state R.File.remaining (option_copied script.entry)
         (reading I.remaining input.old input.new) (writing O.contents out.old out.new) result }
 {
     let disk = open_image(rt, image)?;
@@ -305,27 +319,19 @@ fn upgrade_image<R: Files<File: DiskFile> + AllocGlobal, O: Write>(
     upgrade_disk(rt.alloc(), &mut disk, out)
 }
 
-// Requests are read from the one stream, and replies are written to the other.
-fn serve_image<
-    R: Files<File: DiskFile + FileExt> + AllocGlobal + Clock,
-    I: Read,
-    O: Write,
-    E: Write,
->(
+fn serve_image<R: Files<File: DiskFile> + AllocGlobal, K: Kernel, E: Write>(
     rt: &R,
     image: &Text,
     denials: Option<&Text>,
     own_rules: bool,
-    input: &mut Watched<I>,
-    out: &mut Watched<O>,
+    kernel: &mut K,
     err: &mut E,
 ) -> Result<Status, Failure>
-    ensures { ImageFuseEnds ⟦<FileDisk<R::File> as Disk>⟧.state (option_copied denials.entry) own_rules result }
+    ensures { ImageFuseEnds ⟦<FileDisk<R::File> as Disk>⟧.state K.Does (option_copied denials.entry) own_rules kernel.old kernel.new result }
 {
     let disk = open_image(rt, image)?;
     let mut witness = DenialList::new(rt.alloc(), open_denials(rt, denials)?);
-    let mut kernel = Standard::new(rt, ProcFiles::new(rt), input, out);
-    serve_on_disk(rt.alloc(), disk, own_rules, &mut kernel, &mut witness, err)
+    serve_on_disk(rt.alloc(), disk, own_rules, kernel, &mut witness, err)
 }
 
 // Whether there is a regular file, or nothing yet. A link is followed by nobody: who made it would say where denials go.

@@ -16,4 +16,5 @@ pub use failure::Failure;
 pub use fs_command::{Job, WordsFault, parse_words};
 pub use fs_shell::{RunFault, Watched};
 pub use fs_system::MountFault;
+pub use fuse_serving::ProcFiles;
 pub use jobs::perform;

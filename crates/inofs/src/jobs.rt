@@ -5,7 +5,7 @@ use crate::words::HELP;
 use fs_check::{CheckFault, Finding};
 use fs_images::{MkfsFault, UpgradeFault};
 use fs_info::InfoFault;
-use fs_program::{Failure, MountFault, RunFault, Watched, perform};
+use fs_program::{Failure, MountFault, ProcFiles, RunFault, Watched, perform};
 use host_trees::CopyFault;
 use std::alloc::{AllocError, Global};
 use std::fs::Permissions;
@@ -89,6 +89,7 @@ fn seen(rt: &HostRuntime, folder: &str, line: &str, input: &str) -> Result<Strin
     let status = perform(
         rt,
         &words,
+        ProcFiles::new(rt),
         &mut Watched::new(input.as_bytes()),
         &mut Watched::new(&mut out),
         &mut err,

@@ -12,7 +12,7 @@ mod report;
 mod words;
 
 use fs_command::Status;
-use fs_program::{Watched, perform};
+use fs_program::{ProcFiles, Watched, perform};
 use std::process::ExitCode;
 use std::{env, io};
 
@@ -27,6 +27,7 @@ fn main(rt: HostRuntime) -> ExitCode {
     let status = perform(
         &rt,
         &words,
+        ProcFiles::new(&rt),
         &mut Watched::new(rt.stdin()),
         &mut Watched::new(rt.stdout()),
         &mut rt.stderr(),

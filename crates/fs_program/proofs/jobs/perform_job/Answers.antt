@@ -1,4 +1,5 @@
 use Rattle.std.proofs.Common.{refl}
+use Rattle.fs_program.proofs.Sessions.{fuse_job_ends}
 use Rattle.fs_program.proofs.jobs.perform_job.Goals as goal
 
 pub returns-in-Mkfs : goal.returns-in-Mkfs
@@ -26,4 +27,6 @@ pub returns-in-Upgrade : goal.returns-in-Upgrade
 returns-in-Upgrade g c = rw c.in-Upgrade.is c.upgrade_image.ensures
 
 pub returns-in-Fuse : goal.returns-in-Fuse
-returns-in-Fuse g c = rw c.in-Fuse.is (rw c.as_ref-in-Fuse.ensures.value at c.serve_image.ensures)
+returns-in-Fuse g c =
+    let served = rw c.as_ref-in-Fuse.ensures.value at c.serve_image.ensures in
+    rw c.in-Fuse.is (fuse_job_ends _ _ g.P.Processes.Shows _ _ _ _ _ served (λ k. k.processes) (λ old new x does. does) c.args.processes c.new-kernel.ensures)
