@@ -9,7 +9,7 @@ FINDING = ('finding 4 1\ninode 1: its kind, mode, size and unused bytes have to 
            'inode 1 a directory; they are not; nothing is repaired: take the image from a backup\n')
 CLEAN = 'clean files 0 dirs 1 links 0 nameless 0 blocks 878 inodes 62 pending no\n'
 CLEAN_3 = 'clean files 0 dirs 1 links 0 nameless 0 blocks 1518 inodes 62 pending no\n'
-USAGE = 'usage: mkfs.inofs [-v] [--size SIZE | --sectors N] [--inodes N] [--from DIR [--owner UID:GID]] IMAGE\n'
+USAGE = 'usage: mkfs.inofs [-v] [--size SIZE | --sectors N] [--inodes N] [--from DIR [--owner UID:GID]] [--thin] IMAGE\n'
 BAD_SIZE = 'error: invalid value for \'--size <SIZE>\': 512K to 8G, in bytes or with K, M or G behind\n'
 MOUNTED = ' is mounted.\nfsck.inofs: Cannot continue, aborting.\n'
 MADE = 'made 1024 sectors 64 inodes 878 free\n'
