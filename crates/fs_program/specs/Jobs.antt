@@ -7,9 +7,10 @@
 --     MkfsEnds, CheckEnds, UpgradeEnds        a disk is made a file system, a disk is checked, and a disk is upgraded
 --     InfoEnds        a disk says of itself what it does
 --     RunsOn, RunEnds        a script is run on a disk that is mounted for it
+--     IsOfZeros        the disk in a new file
 --     MemoryEnds, ImageMkfsEnds, ImageRunEnds, ImageCheckEnds, ImageInfoEnds, ImageUpgradeEnds        the jobs but that of serving
 --     JobEnds, ProgramEnds        a job, and what the program does for its words
-use Rattle.std.specs.Prelude.{◌≡◌, ◌⊎◌, ◌≤◌, ℕ, Bool, List, Option, None, IsSome, IsTrue, Result, Ok, Err, OnOk, IfOk, IfSome}
+use Rattle.std.specs.Prelude.{◌≡◌, ◌⊎◌, ◌≤◌, ℕ, Bool, List, Option, None, IsSome, IsTrue, Result, Ok, Err, OnOk, IfOk, IfSome, replicate}
 use Rattle.std.specs.Io.KnownBytes.{Appends}
 use Rattle.sector_disk.specs.Disk.{DiskState, IsFresh, IsStable, LeavesOnly, OnlyReads}
 use Rattle.sector_disk.specs.Parts.{IsImageOf}
@@ -30,7 +31,7 @@ use Rattle.fs_info.specs.InfoTexts.{info_text}
 use Rattle.fs_info.specs.declared.faults.InfoFault.{InfoFault}
 use Rattle.fs_info.specs.declared.info.Info.{Info}
 use Rattle.fs_system.specs.Doing.{Does}
-use Rattle.fs_images.specs.Making.{IsDeviceFault, IsNewDisk}
+use Rattle.fs_images.specs.Making.{IsDeviceFault, IsNewDisk, KeepsLogAndData}
 use Rattle.fs_system.specs.Mounts.{IsNotMounted}
 use Rattle.fs_system.specs.Histories.{Up}
 use Rattle.fs_system.specs.Mounts.{Mounts}
@@ -117,7 +118,7 @@ pub record HasChecked {P : Type 0} (part : P → DiskState) (file : Option Held)
 pub data MkfsEnds (old now : DiskState) (version : Version) (inodes : ℕ) (w : Writing) (result : Result Status Failure) : Type 0 where
   cannot_make : (fault : MkfsFault) → IsDeviceFault old now fault → IsUndone w (failures.Mkfs fault) result
       → MkfsEnds old now version inodes w result
-  is_made : IsNewDisk version inodes now.seen → IsStable now → Tells w (made_text (laid_out version old.size inodes)) Done result
+  is_made : IsNewDisk version inodes now.seen → KeepsLogAndData version inodes old now → IsStable now → Tells w (made_text (laid_out version old.size inodes)) Done result
       → MkfsEnds old now version inodes w result
 
 -- A disk is to be checked, and a finding explained or not.
@@ -178,12 +179,17 @@ pub record MemoryEnds {D : Type 0} (state : D → DiskState) (r : Reading) (w : 
   pub flushed : OnOk ran (IsTrue w.is_flushed)
   pub is_end : result ≡ memory_end ran
 
--- An image of this version is to be made.
+-- a disk of so many sectors, which are zeros
+pub record IsOfZeros (sectors : ℕ) (disk : DiskState) : Type 0 where
+  pub size : disk.size ≡ sectors
+  pub seen : disk.seen ≡ replicate sectors (replicate 512 0)
+
+-- An image of this version is to be made. The file is new and of zeros, so those are left in its log and in its data.
 pub data ImageMkfsEnds {D : Type 0} (state : D → DiskState) (version : Version) (sectors inodes : ℕ) (w : Writing) (result : Result Status Failure) : Type 0 where
   has_no_geometry : the_geometry version sectors inodes ≡ None → IsUndone w (failures.Mkfs TooSmall) result → ImageMkfsEnds state version sectors inodes w result
   exists : IsUndone w failures.Exists result → ImageMkfsEnds state version sectors inodes w result
   is_not_created : IsUndone w failures.NotCreated result → ImageMkfsEnds state version sectors inodes w result
-  is_created : (old now : D) → (state old).size ≡ sectors → MkfsEnds (state old) (state now) version inodes w result
+  is_created : (old now : D) → IsOfZeros sectors (state old) → MkfsEnds (state old) (state now) version inodes w result
       → ImageMkfsEnds state version sectors inodes w result
 
 -- The script is that of the standard input, unless it is in a file: then it is what reads of an open file give.

@@ -5,7 +5,7 @@ ghost use Rattle.std.specs.Option.{option_copied};
 ghost use Rattle.sector_disk.specs.Disk.{IsFresh};
 ghost use Rattle.fs_layout.specs.Geometry.{the_geometry};
 ghost use Rattle.fs_images.specs.Making.{IsNewLayout};
-ghost use Rattle.fs_program.specs.Jobs.{HasChecked, ImageMkfsEnds, ImageRunEnds, ImageCheckEnds, ImageInfoEnds, ImageUpgradeEnds, JobEnds, ProgramEnds};
+ghost use Rattle.fs_program.specs.Jobs.{HasChecked, ImageMkfsEnds, ImageRunEnds, ImageCheckEnds, ImageInfoEnds, ImageUpgradeEnds, IsOfZeros, JobEnds, ProgramEnds};
 ghost use Rattle.fs_program.specs.Copying.{ImagePackEnds, ImageUnpackEnds};
 ghost use Rattle.fs_program.specs.Serving.{ImageFuseEnds};
 ghost use Rattle.fs_program.specs.Streams.{reading, writing};
@@ -196,7 +196,7 @@ fn create_image<R: Files<File: DiskFile> + AllocGlobal>(
     sectors: u32,
 ) -> Result<FileDisk<R::File>, Failure>
     requires { sectors ≤ 16777217 }
-    ensures made { IfOk result (λ disk. (⟦<FileDisk<R::File> as Disk>⟧.state disk).size ≡ sectors) }
+    ensures made { IfOk result (λ disk. IsOfZeros sectors (⟦<FileDisk<R::File> as Disk>⟧.state disk)) }
     ensures failed { IfErr result (λ failure. (failure ≡ Failure.Exists) ⊎ (failure ≡ Failure.NotCreated)) }
 {
     match FileDisk::create(rt, rt.alloc(), image.as_str(), sectors) {

@@ -23,6 +23,6 @@ pub returns : goal.returns
 returns g c =
     let w = writing g.O.Write.contents c.args.out.now c.print_made.new.out in
     let told = tells w (made_text c.args.geometry) c.print_made.result Done c.written.result c.print_made.ensures c.written.ensures in
-    is_made c.in_default.ensures.made c.in_default.ensures.stable
+    is_made c.in_default.ensures.made c.in_default.ensures.kept c.in_default.ensures.stable
     (subst (λ (p : Geometry). Tells w (made_text p) Done (Ok c.written.result))
     (geometry_is_laid_out (g.D.Disk.state c.args.disk.now).size c.args.geometry.inodes c.requires) told)

@@ -9,7 +9,7 @@ pub create_image-requires : goal.create_image-requires
 create_image-requires g c = sectors_most (rw c.in-Some.is at c.requires)
 
 pub make_on_disk-requires : goal.make_on_disk-requires
-make_on_disk-requires g c = placed (rw c.in-Some.is at c.requires) c.in-Ok.ensures.made
+make_on_disk-requires g c = placed (rw c.in-Some.is at c.requires) c.in-Ok.ensures.made.size
 
 pub returns-in_default : goal.returns-in_default
 returns-in_default g c = λ version sectors inodes is. has_no_geometry (sym is ∙ no_layout _ c.in_default.not-Some) (refl, refl)
@@ -19,7 +19,8 @@ returns-in-Ok g c = λ version sectors inodes has.
     let is = geometry_is_laid_out sectors inodes (sym has ∙ c.in-Some.is) in
     let same_inodes : c.in-Some.geometry.inodes ≡ inodes = ap (λ (p : Geometry). p.inodes) is in
     let same_version : c.in-Some.geometry.version ≡ version = ap (λ (p : Geometry). p.version) is in
-    is_created c.in-Ok.disk c.make_on_disk.new.disk (c.in-Ok.ensures.made ∙ ap (λ (p : Geometry). p.sectors) is)
+    let same_size : c.in-Some.geometry.sectors ≡ sectors = ap (λ (p : Geometry). p.sectors) is in
+    is_created c.in-Ok.disk c.make_on_disk.new.disk (rw same_size at c.in-Ok.ensures.made)
     (rw (same_version, same_inodes) at c.make_on_disk.ensures)
 
 pub returns-in-Err : goal.returns-in-Err
