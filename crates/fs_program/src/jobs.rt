@@ -327,7 +327,8 @@ fn serve_image<R: Files<File: DiskFile> + AllocGlobal, K: Kernel, E: Write>(
     kernel: &mut K,
     err: &mut E,
 ) -> Result<Status, Failure>
-    ensures { ImageFuseEnds ⟦<FileDisk<R::File> as Disk>⟧.state K.Does (option_copied denials.entry) own_rules kernel.old kernel.new result }
+    ensures { ImageFuseEnds ⟦<FileDisk<R::File> as Disk>⟧.state K.Does (option_copied denials.entry) own_rules
+        kernel.old kernel.new result }
 {
     let disk = open_image(rt, image)?;
     let mut witness = DenialList::new(rt.alloc(), open_denials(rt, denials)?);

@@ -3,14 +3,14 @@
 --     HasShown        it was shown at some time
 --     IsUnknown        nothing is known of who asks
 --     SharesUsers        a process is in the user namespace of the server
---     IsShown        what is known was shown of that process
+--     ShowsCaller        what is known was shown of that process
 --     IsLearnt        either
 --     LearnsBy        what passes at a server that learns so
 use Rattle.std.specs.Prelude.{◌≡◌, ℕ, List, ◌⊎◌, None}
 use Rattle.fs_cred.specs.Capabilities.{no_caps}
 use Rattle.fuse_serving.specs.declared.caller.Caller.{Caller}
 use Rattle.fuse_serving.specs.Exchanges.{Exchange, Reads, ReadsEnd, Writes, Learns, SeesTime}
-use Rattle.fuse_serving.specs.Status.{IsSaid}
+use Rattle.fuse_serving.specs.Status.{SaysCaller}
 
 pub data Showing : Type 0 where
   -- the text of the status of the process with this number: proc(5)
@@ -35,15 +35,15 @@ pub record SharesUsers {P : Type 0} (Shows : P → Showing → P → Type 0) (no
 
 -- The status that is shown now for the process says what is known of it, as which user and group it acts on files; and capabilities
 -- count only of a process in the server's user namespace.
-pub record IsShown {P : Type 0} (Shows : P → Showing → P → Type 0) (now : P) (pid uid gid : ℕ) (caller : Caller) : Type 0 where
+pub record ShowsCaller {P : Type 0} (Shows : P → Showing → P → Type 0) (now : P) (pid uid gid : ℕ) (caller : Caller) : Type 0 where
   pub text : List ℕ
   pub reached : P
   pub shown : Shows now (Status pid text) reached
-  pub said : IsSaid text uid gid caller
+  pub said : SaysCaller text uid gid caller
   pub caps : (caller.caps ≡ no_caps) ⊎ SharesUsers Shows reached pid
 
 abbrev pub IsLearnt : {P : Type 0} → (P → Showing → P → Type 0) → P → ℕ → ℕ → ℕ → Caller → Type 0
-IsLearnt Shows now pid uid gid caller = IsUnknown caller ⊎ IsShown Shows now pid uid gid caller
+IsLearnt Shows now pid uid gid caller = IsUnknown caller ⊎ ShowsCaller Shows now pid uid gid caller
 
 -- Nothing is learnt of who asks but what is shown then. Of what is read and written, and of the time, nothing is claimed.
 abbrev pub LearnsBy : {P : Type 0} → (P → Showing → P → Type 0) → P → Exchange → P → Type 0

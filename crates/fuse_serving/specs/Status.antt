@@ -3,7 +3,7 @@
 --     SaysNumber, SaysIds        digits, and numbers with spaces between them
 --     SaysGroups, SaysCaps        the supplementary groups; which capabilities are in effect
 --     SaysLastId, ActsAs        as which user and group it acts on files
---     IsSaid        what is known of it is what the text says
+--     SaysCaller        what is known of it is what the text says
 use Rattle.std.specs.Prelude.{◌≡◌, ℕ, ◌^◌, ◌<◌, ◌==◌, Bool, List, [], ◌∷◌, ◌++◌, codes, bit_and, Contains, drop, ◌+◌, ◌⊎◌, IfSome}
 use Rattle.std.specs.List.{slice_split, slice_index}
 use Rattle.std.specs.Str.Parse.{IsNumeral, digits_value, without_leading_plus}
@@ -77,7 +77,7 @@ pub record SaysCaps (text : List ℕ) (caps : Caps) : Type 0 where
 
 -- A process that acts on files as this user and this group is known. Its groups are all that the text says, where they are known, and
 -- its capabilities are those of the text, or none.
-pub record IsSaid (text : List ℕ) (uid gid : ℕ) (caller : Caller) : Type 0 where
+pub record SaysCaller (text : List ℕ) (uid gid : ℕ) (caller : Caller) : Type 0 where
   pub acts : ActsAs text uid gid
   pub groups : IfSome caller.groups (SaysGroups text)
   pub caps : (caller.caps ≡ no_caps) ⊎ SaysCaps text caller.caps

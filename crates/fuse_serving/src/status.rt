@@ -2,7 +2,7 @@
 ghost use Rattle.std.specs.Prelude.{◌≡◌, ◌≤◌, ◌⊎◌, List, Some, IfOk, IfSome, IsTrue, drop};
 ghost use Rattle.std.specs.List.{slice_split};
 ghost use Rattle.fs_cred.specs.Capabilities.{no_caps};
-ghost use Rattle.fuse_serving.specs.Status.{is_blank_byte, HasLine, SaysNumber, SaysIds, SaysGroups, SaysLastId, ActsAs, SaysCaps, IsSaid};
+ghost use Rattle.fuse_serving.specs.Status.{is_blank_byte, HasLine, SaysNumber, SaysIds, SaysGroups, SaysLastId, ActsAs, SaysCaps, SaysCaller};
 ghost use Rattle.fuse_serving.specs.Processes.{IsUnknown};
 
 use crate::caller::{Caller, Groups};
@@ -125,7 +125,7 @@ pub fn caller_of_status(
     uid: u32,
     gid: u32,
 ) -> Result<Caller, AllocError>
-    ensures { IfOk result (λ caller. IsUnknown caller ⊎ IsSaid text.now uid gid caller) }
+    ensures { IfOk result (λ caller. IsUnknown caller ⊎ SaysCaller text.now uid gid caller) }
 {
     if !acts_as(text, uid, gid) {
         return Ok(Caller::unknown());

@@ -21,7 +21,7 @@ use Rattle.fs_model.specs.declared.reply.Reply.TheVariants.{Done}
 use Rattle.fs_model.specs.Reading.{IsReading}
 use Rattle.host_trees.specs.declared.fault.Copied.{Copied}
 use Rattle.host_trees.specs.declared.fault.CopyFault.{CopyFault}
-use Rattle.host_trees.specs.Copies.{Asked, AsksOne, Asks, Tells, AsksTelling, ServesAll, stays, goes, IsMaking, is_done, is_whole, synced, AreCopying, ArePacking, AreUnpacking, Copies}
+use Rattle.host_trees.specs.Copies.{Asked, AsksOne, Asks, OnlyTells, AsksTelling, ServesAll, stays, goes, IsMaking, is_done, is_whole, synced, AreCopying, ArePacking, AreUnpacking, Copies}
 
 module _ {M : Type 0} {Serves : M → Event → Reply → M → Type 0} where
   goes_then : {old mid new : M} {first rest : List Asked} → ServesAll Serves old first mid → ServesAll Serves mid rest new → ServesAll Serves old (first ++ rest) new
@@ -84,7 +84,7 @@ module _ {M : Type 0} {Serves : M → Event → Reply → M → Type 0} {Own : E
   tells_asked e all = record { asks = all; silent = λ is. refl }
 
   -- nothing is asked
-  pub tells_told : {E : Type 0} {unaware aware : E} {old new : M} {was is : Bool} → Tells old new was is unaware aware
+  pub tells_told : {E : Type 0} {unaware aware : E} {old new : M} {was is : Bool} → OnlyTells old new was is unaware aware
       → AsksTelling Serves Own old new was is unaware aware
   tells_told told = record { asks = asks_none told.same told.before; silent = told.silent }
 
@@ -151,14 +151,14 @@ unpacking_reads asked (Err fault) are = are.own
 
 -- ---- what is lacking
 
-pub lacks_so : {M E : Type 0} {unaware aware : E} {old new : M} {was is : Bool} → new ≡ old → is ≡ false → Tells old new was is unaware aware
+pub lacks_so : {M E : Type 0} {unaware aware : E} {old new : M} {was is : Bool} → new ≡ old → is ≡ false → OnlyTells old new was is unaware aware
 lacks_so same lacking = record {
   same = same;
   before = λ whole. absurd (true≢false (sym whole ∙ lacking));
   silent = λ whole. absurd (true≢false (sym whole ∙ lacking));
 }
 
-pub lacks_nothing : {M E : Type 0} (m : M) (whole : Bool) (e : E) → Tells m m whole whole e e
+pub lacks_nothing : {M E : Type 0} (m : M) (whole : Bool) (e : E) → OnlyTells m m whole whole e e
 lacks_nothing m whole e = record { same = refl; before = λ is. is; silent = λ is. refl }
 
 -- what ends early isn't whole

@@ -4,7 +4,7 @@
 --     Asked, ServesAll        an event with its reply, and what several lead to
 --     AsksOne        one event was asked
 --     Asks        events of one kind were asked, one after another, and whether anything is lacking since
---     Tells        nothing was asked, and what is lacking may be told
+--     OnlyTells        nothing was asked, and what is lacking may be told
 --     AsksTelling        both
 --     AreCopying, ArePacking, AreUnpacking        what is asked for a copy, and how that ends
 --     Copies        the same, from one state of the file system to another
@@ -84,7 +84,7 @@ pub record Asks {M : Type 0} (Serves : M → Event → Reply → M → Type 0) (
 
 -- Nothing was asked, between two states of who is told what is lacking. Where nothing is lacking now, nothing was before, and nothing
 -- was told.
-pub record Tells {M E : Type 0} (old new : M) (was_whole is_whole : Bool) (unaware aware : E) : Type 0 where
+pub record OnlyTells {M E : Type 0} (old new : M) (was_whole is_whole : Bool) (unaware aware : E) : Type 0 where
   pub same : new ≡ old
   pub before : IsTrue is_whole → IsTrue was_whole
   pub silent : IsTrue is_whole → aware ≡ unaware

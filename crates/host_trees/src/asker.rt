@@ -2,7 +2,7 @@
 ghost use Rattle.std.specs.Prelude.{◌≡◌, ◌&&◌, OnErr, true, false, IsTrue};
 ghost use Rattle.fs_model.specs.Steps.{is_of_machine};
 ghost use Rattle.fs_model.specs.declared.event.Event.TheVariants as events;
-ghost use Rattle.host_trees.specs.Copies.{AsksOne, Tells, is_done, is_so_long, is_whole};
+ghost use Rattle.host_trees.specs.Copies.{AsksOne, OnlyTells, is_done, is_so_long, is_whole};
 
 use crate::fault::Copied;
 use crate::file_system::FileSystem;
@@ -129,7 +129,7 @@ pub(crate) fn name_lack<M: FileSystem, E: Write>(
     path: &str,
     lack: Lack,
 )
-    ensures told { Tells asker.old.machine asker.new.machine asker.old.is_whole asker.new.is_whole err.old err.new }
+    ensures told { OnlyTells asker.old.machine asker.new.machine asker.old.is_whole asker.new.is_whole err.old err.new }
     ensures lacking { asker.new.is_whole ≡ false }
 {
     asker.lacks();
@@ -143,7 +143,7 @@ pub(crate) fn name_if_lacking<M: FileSystem, E: Write>(
     path: &str,
     tried: Result<(), Lack>,
 )
-    ensures told { Tells asker.old.machine asker.new.machine asker.old.is_whole asker.new.is_whole err.old err.new }
+    ensures told { OnlyTells asker.old.machine asker.new.machine asker.old.is_whole asker.new.is_whole err.old err.new }
     ensures lacking { OnErr tried (asker.new.is_whole ≡ false) }
 {
     match tried {
