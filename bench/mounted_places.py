@@ -68,11 +68,19 @@ def killed_helper(mounted, told):
     told.compare('places', 'unmount of the next mount', None, unmount(mounted, mounted.mount), 0)
 
 
+def capabilities(process):
+    """Those that a process may have, and those up to which it may get some."""
+    status = pathlib.Path(f'/proc/{process}/status').read_text().split('\n')
+    return [int(line.split()[1], 16) for line in status if line.startswith(('CapPrm', 'CapBnd'))]
+
+
 def surroundings(mounted, told):
+    if not shutil.which('setpriv'):
+        print('places: capabilities of the server: not tried, setpriv is not here')
+        return
     mounted.begin()
-    status = pathlib.Path(f'/proc/{mounted.server()}/status').read_text().split('\n')
-    held = [line.split()[1] for line in status if line.startswith(('CapPrm', 'CapBnd'))]
-    told.compare('places', 'capabilities of the server', None, held, [f'{NEEDED:016x}'] * 2)
+    wanted = [held & NEEDED for held in capabilities('self')]
+    told.compare('places', 'capabilities of the server', None, capabilities(mounted.server()), wanted)
     mounted.end()
 
 
@@ -83,6 +91,10 @@ def blocks_of(path):
 def reserved(mounted, told):
     """The host has blocks for the whole image from a mount on, but with thin."""
     image = mounted.image
+    mounted.fresh()
+    if subprocess.run(['fallocate', '-l', str(image.stat().st_size), image], stderr=subprocess.DEVNULL).returncode:
+        print('places: blocks of images: not tried, the host sets none aside')
+        return
     for options, wanted in (('thin', False), ('reserve', True)):
         mounted.fresh()
         mounted.options.append(options)
