@@ -59,8 +59,10 @@ def namespaces(mounted, told):
 
 def killed_helper(mounted, told):
     """A helper that was killed leaves a record, for which nobody waits, and which the next mount takes away."""
+    before = set(RECORDS.iterdir())
     mounted.begin()
-    left = {record for record in RECORDS.iterdir() if record.is_dir()}
+    left = set(RECORDS.iterdir()) - before
+    told.compare('places', 'records of one mount', None, len(left), 1)
     os.kill(helper_of(mounted), signal.SIGKILL)
     told.compare('places', 'unmount behind a killed helper', None, (unmount(mounted, mounted.mount), mounted.gone()), (0, True))
     mounted.begin()
