@@ -10,6 +10,22 @@ use Rattle.bit_alloc.proofs.Passing.{fault_on, no_fault}
 use Rattle.block_map.proofs.Wrote.{may_within}
 use Rattle.block_map.proofs.size.drop_blocks.Goals as goal
 
+pub returns-clause-dropped : goal.returns-clause-dropped
+returns-clause-dropped g c =
+    let p = c.args.geometry in
+    let first = c.args.first in
+    let v = c.args.inode.now in
+    let w = c.clear_inode.new.inode in
+    let old = g.S.Sectors.state c.args.s.now in
+    let given = g.S.Sectors.state c.give_from.new.s in
+    let new = g.S.Sectors.state c.loop-level.s in
+    let most = c.loop-level.invariant.most in
+    let all : c.loop-level.level ≡ POINTER_LEVELS = omega (arith, c.loop-level-test.false, most) in
+    let cuts = subst (λ (n : ℕ). AreCut p n first old.sectors given new v) all c.loop-level.invariant.cuts in
+    let cleared : ClearsNumbers first v w = c.clear_inode.ensures in
+    let numbers : ClearsNumbers first v (record v { direct = w.direct; indirect = w.indirect }) = subst (λ (u : Inode). ClearsNumbers first v u) cleared.others cleared in
+    subst (λ (u : Inode). DropsBlocks p first old new v u) (sym cleared.others) (drops c.requires.may c.in_ok-give_from.ensures.given cuts numbers)
+
 pub give_from-requires-clause-room : goal.give_from-requires-clause-room
 give_from-requires-clause-room g c = spare_none c.args.geometry (g.S.Sectors.state c.args.s.now) (cut_by c.args.first) c.requires.room
 
@@ -55,22 +71,6 @@ clear_inode-requires-clause-direct g c = c.requires.may.fits.direct_len
 
 pub clear_inode-requires-clause-indirect : goal.clear_inode-requires-clause-indirect
 clear_inode-requires-clause-indirect g c = c.requires.may.fits.indirect_len
-
-pub returns-clause-dropped : goal.returns-clause-dropped
-returns-clause-dropped g c =
-    let p = c.args.geometry in
-    let first = c.args.first in
-    let v = c.args.inode.now in
-    let w = c.clear_inode.new.inode in
-    let old = g.S.Sectors.state c.args.s.now in
-    let given = g.S.Sectors.state c.give_from.new.s in
-    let new = g.S.Sectors.state c.loop-level.s in
-    let most = c.loop-level.invariant.most in
-    let all : c.loop-level.level ≡ POINTER_LEVELS = omega (arith, c.loop-level-test.false, most) in
-    let cuts = subst (λ (n : ℕ). AreCut p n first old.sectors given new v) all c.loop-level.invariant.cuts in
-    let cleared : ClearsNumbers first v w = c.clear_inode.ensures in
-    let numbers : ClearsNumbers first v (record v { direct = w.direct; indirect = w.indirect }) = subst (λ (u : Inode). ClearsNumbers first v u) cleared.others cleared in
-    subst (λ (u : Inode). DropsBlocks p first old new v u) (sym cleared.others) (drops c.requires.may c.in_ok-give_from.ensures.given cuts numbers)
 
 pub returns-clause-store : goal.returns-clause-store
 returns-clause-store g c = store_joined c.in_ok-give_from.ensures.store c.loop-level.invariant.cuts.puts.store

@@ -6,6 +6,15 @@ use Rattle.file_calls.proofs.Moded.{accessed_kind, mode_changed}
 use Rattle.file_calls.proofs.Rows.{chmod_by_path}
 use Rattle.file_calls.proofs.attributes.chmod.Goals as goal
 
+pub returns : goal.returns
+returns g c =
+    let x = c.in_ok-reached.ensures in
+    let o = x.owned in
+    let given = c.in_ok-give_mode.ensures.given in
+    changed (chmod_by_path c.args.path.now c.args.mode c.check_mode-checks.result c.check_mode-checks.ensures) x.same o.reached.walked
+    (g.S.Sectors.state c.give_mode.new.s) c.in_ok-give_mode.ensures.store (given _ (reached_access o.reached).acl).one.super c.in_ok-touch.ensures.made Done
+    (λ s has at. mode_changed at has o.reached.inode c.cred-cred.result.now c.args.mode _ c.cred-cred.ensures o.met given)
+
 pub returns-in_err-reached : goal.returns-in_err-reached
 returns-in_err-reached g c =
     let r = c.from_residual.ensures in
@@ -49,12 +58,3 @@ returns-in_err-touch g c =
     broken_later (chmod_by_path c.args.path.now c.args.mode c.check_mode-checks.result c.check_mode-checks.ensures) x.same x.owned.reached.walked
     (g.S.Sectors.state c.touch.new.s) _ _ c.from_residual-in_err-touch.ensures
     c.in_ok-give_mode.ensures.store c.in_err-touch.ensures.store c.in_err-touch.ensures.fault
-
-pub returns : goal.returns
-returns g c =
-    let x = c.in_ok-reached.ensures in
-    let o = x.owned in
-    let given = c.in_ok-give_mode.ensures.given in
-    changed (chmod_by_path c.args.path.now c.args.mode c.check_mode-checks.result c.check_mode-checks.ensures) x.same o.reached.walked
-    (g.S.Sectors.state c.give_mode.new.s) c.in_ok-give_mode.ensures.store (given _ (reached_access o.reached).acl).one.super c.in_ok-touch.ensures.made Done
-    (λ s has at. mode_changed at has o.reached.inode c.cred-cred.result.now c.args.mode _ c.cred-cred.ensures o.met given)

@@ -15,6 +15,23 @@ use Rattle.file_calls.proofs.OpenFound.{not_opened, opening_broken, opening_brok
 use Rattle.file_calls.proofs.OpenMade.{directory_there, dir_default, none_is_there, make_refused, asked_of_it, can_make, finds_kept, asked_later, file_prepares}
 use Rattle.file_calls.proofs.opening.open_new.Goals as goal
 
+pub returns : goal.returns
+returns g c =
+    let asked = c.in_ok-directory.ensures in
+    let acl = c.in_ok-acl.ensures in
+    let done = c.in_ok-ino.ensures in
+    let joined = unchanged_joined asked.same acl.same in
+    let moved = c.in_ok-touch.ensures.made in
+    record {
+      store = store_joined (store_joined joined.store done.store) c.in_ok-touch.ensures.store;
+      super = moved.super ∙ done.made.names.super ∙ done.made.takes.super ∙ joined.sectors 0;
+      each = λ st i.
+          reached i
+          (file_prepares c.requires.none (sym c.in_ok-check_new.ensures) c.cred-cred.ensures c.saturating_sub-step.ensures asked.same acl.same asked.each c.args.opening.now.mode
+          (g.S.Sectors.state c.make_file.new.s).sectors c.uid-uid.ensures c.bytes-name.ensures.all c.umask.ensures done.made c.new_group-gid.ensures acl.found i)
+          moved;
+    }
+
 pub returns-in_err-check_new : goal.returns-in_err-check_new
 returns-in_err-check_new g c =
     let r = c.from_residual.ensures in
@@ -111,20 +128,3 @@ pub returns-in_err-touch : goal.returns-in_err-touch
 returns-in_err-touch g c =
     opening_broken_later (g.S.Sectors.state c.touch.new.s) _ _ c.from_residual-in_err-touch.ensures
     (store_joined (unchanged_joined c.in_ok-directory.ensures.same c.in_ok-acl.ensures.same).store c.in_ok-ino.ensures.store) c.in_err-touch.ensures.store c.in_err-touch.ensures.fault
-
-pub returns : goal.returns
-returns g c =
-    let asked = c.in_ok-directory.ensures in
-    let acl = c.in_ok-acl.ensures in
-    let done = c.in_ok-ino.ensures in
-    let joined = unchanged_joined asked.same acl.same in
-    let moved = c.in_ok-touch.ensures.made in
-    record {
-      store = store_joined (store_joined joined.store done.store) c.in_ok-touch.ensures.store;
-      super = moved.super ∙ done.made.names.super ∙ done.made.takes.super ∙ joined.sectors 0;
-      each = λ st i.
-          reached i
-          (file_prepares c.requires.none (sym c.in_ok-check_new.ensures) c.cred-cred.ensures c.saturating_sub-step.ensures asked.same acl.same asked.each c.args.opening.now.mode
-          (g.S.Sectors.state c.make_file.new.s).sectors c.uid-uid.ensures c.bytes-name.ensures.all c.umask.ensures done.made c.new_group-gid.ensures acl.found i)
-          moved;
-    }

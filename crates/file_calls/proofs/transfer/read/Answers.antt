@@ -10,6 +10,21 @@ use Rattle.file_calls.proofs.HeldFiles.{no_directory}
 use Rattle.file_calls.proofs.Reading.{read_by, read_refused, read_told, read_ends, end_fits}
 use Rattle.file_calls.proofs.transfer.read.Goals as goal
 
+pub returns-clause-performs : goal.returns-clause-performs
+returns-clause-performs g c =
+    let x = reached_as c.descriptor.view_is (rw c.caller-caller.ensures at c.in_ok-descriptor.ensures.opened) in
+    let o = x.is_open.opened in
+    let v = c.in_ok-descriptor.inode in
+    let file = no_directory v.kind c.in_ok-check_no_directory.ensures in
+    let read = c.in_ok-bytes in
+    let to = c.descriptor.inside.offset + length c.bytes.result.now in
+    let len : c.descriptor.inside.offset + length read.bytes ≡ to = ap (λ (l : List ℕ). c.descriptor.inside.offset + length l) (sym c.bytes.ensures.all) in
+    changed_one (read_by c.args.fd c.args.len) c.in_ok-descriptor.ensures.same x.is_open (g.S.Sectors.state c.read_bytes.new.s) c.seek.new.self read.ensures.same
+    (λ p. with_offset p c.args.fd to) (Data read.bytes) c.seek.ensures.moved (offset_stays_open o x.table to)
+    (λ s at.
+    let t = read_told o s at v x.inode file c.args.len read.bytes read.ensures.found in
+    (t.0, t.1 ∙ ap (λ (n : ℕ). with_process (with_offset o.process c.args.fd n) (Data read.bytes)) len))
+
 pub reach_open-requires : goal.reach_open-requires
 reach_open-requires g c = record { ready = rw c.caller-caller.ensures c.requires.ready }
 
@@ -55,21 +70,6 @@ pub seek-requires : goal.seek-requires
 seek-requires g c =
     let x = rw c.caller-caller.ensures at c.in_ok-descriptor.ensures.opened in
     record { «open» = opened_ok x.is_open.opened }
-
-pub returns-clause-performs : goal.returns-clause-performs
-returns-clause-performs g c =
-    let x = reached_as c.descriptor.view_is (rw c.caller-caller.ensures at c.in_ok-descriptor.ensures.opened) in
-    let o = x.is_open.opened in
-    let v = c.in_ok-descriptor.inode in
-    let file = no_directory v.kind c.in_ok-check_no_directory.ensures in
-    let read = c.in_ok-bytes in
-    let to = c.descriptor.inside.offset + length c.bytes.result.now in
-    let len : c.descriptor.inside.offset + length read.bytes ≡ to = ap (λ (l : List ℕ). c.descriptor.inside.offset + length l) (sym c.bytes.ensures.all) in
-    changed_one (read_by c.args.fd c.args.len) c.in_ok-descriptor.ensures.same x.is_open (g.S.Sectors.state c.read_bytes.new.s) c.seek.new.self read.ensures.same
-    (λ p. with_offset p c.args.fd to) (Data read.bytes) c.seek.ensures.moved (offset_stays_open o x.table to)
-    (λ s at.
-    let t = read_told o s at v x.inode file c.args.len read.bytes read.ensures.found in
-    (t.0, t.1 ∙ ap (λ (n : ℕ). with_process (with_offset o.process c.args.fd n) (Data read.bytes)) len))
 
 pub returns-clause-same : goal.returns-clause-same
 returns-clause-same g c = unchanged_joined c.in_ok-descriptor.ensures.same c.in_ok-bytes.ensures.same

@@ -6,24 +6,24 @@ use Rattle.sector_txn.specs.Stores.{present}
 use Rattle.fs_images.proofs.Places.{many_sectors}
 use Rattle.fs_system.proofs.fs.open_store.Goals as goal
 
-pub open-requires : goal.open-requires
-open-requires g c =
-    let many = many_sectors (g.D.Disk.state c.args.disk).seen c.requires.0 c.requires.1 c.requires.2 c.requires.3 in
-    let size = (g.met.D.Disk.seen_is_image c.args.disk).size in
-    omega (arith, many, size)
+pub returns-in-Ok-new-clause-any_moment : goal.returns-in-Ok-new-clause-any_moment
+returns-in-Ok-new-clause-any_moment g c =
+    let state = g.D.Disk.state in
+    subst (λ d. LeavesOnly (state c.args.disk) (state d) (MeansAsBefore (state c.args.disk))) (sym c.in-Ok-new.ensures.disk) c.in-Ok.ensures.any_moment
 
 pub returns-in-Ok-new-clause-map : goal.returns-in-Ok-new-clause-map
 returns-in-Ok-new-clause-map g c =
     let state = g.D.Disk.state in
     same_chain (present state c.in-Ok-new.store) (data_of (state c.in-Ok.journal)) (data_of (state c.args.disk)) c.in-Ok-new.ensures.map c.in-Ok.ensures.same
 
+pub open-requires : goal.open-requires
+open-requires g c =
+    let many = many_sectors (g.D.Disk.state c.args.disk).seen c.requires.0 c.requires.1 c.requires.2 c.requires.3 in
+    let size = (g.met.D.Disk.seen_is_image c.args.disk).size in
+    omega (arith, many, size)
+
 pub returns-in-Ok-new-clause-lasting : goal.returns-in-Ok-new-clause-lasting
 returns-in-Ok-new-clause-lasting g c = c.in-Ok-new.ensures.lasting
-
-pub returns-in-Ok-new-clause-any_moment : goal.returns-in-Ok-new-clause-any_moment
-returns-in-Ok-new-clause-any_moment g c =
-    let state = g.D.Disk.state in
-    subst (λ d. LeavesOnly (state c.args.disk) (state d) (MeansAsBefore (state c.args.disk))) (sym c.in-Ok-new.ensures.disk) c.in-Ok.ensures.any_moment
 
 pub returns-in-Ok-new-clause-size : goal.returns-in-Ok-new-clause-size
 returns-in-Ok-new-clause-size g c = ap (λ d. (g.D.Disk.state d).size) c.in-Ok-new.ensures.disk ∙ c.in-Ok.ensures.size

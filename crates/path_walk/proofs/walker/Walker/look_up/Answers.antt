@@ -18,6 +18,17 @@ use Rattle.path_walk.proofs.Finding.{no_directory, searched, directory_at, searc
 use Rattle.block_map.proofs.Runs.{unchanged_joined}
 use Rattle.path_walk.proofs.walker.Walker.look_up.Goals as goal
 
+pub returns-clause-each : goal.returns-clause-each
+returns-clause-each g c = λ t h there.
+    let w = c.args.self.now in
+    let is = sym c.is_directory.ensures ∙ c.if-not-is_directory.false in
+    let x = searched h w.here there w.inode c.requires.at.inode is in
+    let d = directory_at h w.here there w.inode c.requires.at.inode is in
+    let short : nat_lt (max_name c.args.geometry.version) (length w.name.items) ≡ false = grind (arith, nat_tests) in
+    let named = c.in_ok-found.ensures.each t (kept (λ m. HoldsTree c.args.geometry m t) c.in_ok-search.ensures.same h) d in
+    is_named h w.here there w.inode c.requires.at.inode c.args.cred.now w.number w.step w.name.items is x (c.in_ok-search.ensures.each x.node x.has) short c.in_ok-found.found
+    (ap (named_inode t w.here (names_of_body d.node.body)) (sym c.deref.ensures.value) ∙ same_ok _ _ named)
+
 pub returns-then-not-is_directory-clause-each : goal.returns-then-not-is_directory-clause-each
 returns-then-not-is_directory-clause-each g c = λ t h there.
     let w = c.args.self.now in
@@ -100,17 +111,6 @@ returns-in_err-found-clause-each g c = λ t h there.
 
 pub returns-in_err-found-clause-same : goal.returns-in_err-found-clause-same
 returns-in_err-found-clause-same g c = unchanged_joined c.in_ok-search.ensures.same c.in_err-found.ensures.same
-
-pub returns-clause-each : goal.returns-clause-each
-returns-clause-each g c = λ t h there.
-    let w = c.args.self.now in
-    let is = sym c.is_directory.ensures ∙ c.if-not-is_directory.false in
-    let x = searched h w.here there w.inode c.requires.at.inode is in
-    let d = directory_at h w.here there w.inode c.requires.at.inode is in
-    let short : nat_lt (max_name c.args.geometry.version) (length w.name.items) ≡ false = grind (arith, nat_tests) in
-    let named = c.in_ok-found.ensures.each t (kept (λ m. HoldsTree c.args.geometry m t) c.in_ok-search.ensures.same h) d in
-    is_named h w.here there w.inode c.requires.at.inode c.args.cred.now w.number w.step w.name.items is x (c.in_ok-search.ensures.each x.node x.has) short c.in_ok-found.found
-    (ap (named_inode t w.here (names_of_body d.node.body)) (sym c.deref.ensures.value) ∙ same_ok _ _ named)
 
 pub returns-clause-same : goal.returns-clause-same
 returns-clause-same g c = unchanged_joined c.in_ok-search.ensures.same c.in_ok-found.ensures.same
