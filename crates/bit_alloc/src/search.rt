@@ -11,11 +11,12 @@ const FEW_SECTORS: u32 = 16;
 
 impl Bitmap {
     // Under this key it is left as a hint where a search goes on that was to begin at this sector.
-    fn hint_key(self, from: u32) -> u32 {
-        match self {
-            Bitmap::Inodes => from.wrapping_add(0x8000_0000),
-            Bitmap::Blocks => from.wrapping_add(0xc000_0000),
-        }
+    fn hint_key(self, from: u32) -> u64 {
+        let of_bitmap: u32 = match self {
+            Bitmap::Inodes => 0x8000_0000,
+            Bitmap::Blocks => 0xc000_0000,
+        };
+        u64::from(from.wrapping_add(of_bitmap))
     }
 
     /// The sector, counted from the first of the bitmap's, with which a search begins that is to begin at this one: it or, where it was

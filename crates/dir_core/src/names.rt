@@ -26,6 +26,7 @@ use fs_layout::{Geometry, Inode, MAX_SLOT_SIZE, Slot, Version};
 use sector_disk::DiskFault;
 use sector_txn::Sectors;
 use std::alloc::Global;
+use std::hash::{DefaultHasher, Hasher};
 
 /// The slot that has a name.
 #[derive(Clone, Copy)]
@@ -93,13 +94,14 @@ fn find_in_block(version: Version, block: &[u8; 512], name: &[u8]) -> Option<Fou
     None
 }
 
-// Under this key the slot of a name is left as a hint. Names may share a key.
-pub(crate) fn hint_key(inode: &Inode, name: &[u8]) -> u32 {
-    let mut key = inode.direct[0];
-    for byte in name {
-        key = key.wrapping_mul(31).wrapping_add(u32::from(*byte));
-    }
-    key
+// Under this key the slot of a name is left as a hint. It is a salted hash: users pick names, and would soon find many to which a hash
+// that they know gives one place.
+pub(crate) fn hint_key(salt: u64, inode: &Inode, name: &[u8]) -> u64 {
+    let mut hasher = DefaultHasher::new();
+    hasher.write_u64(salt);
+    hasher.write_u32(inode.direct[0]);
+    hasher.write(name);
+    hasher.finish()
 }
 
 // Looks for a name in the block where it was found lately. If it isn't there, another block may have it.
@@ -107,7 +109,7 @@ fn find_at_hint<S: Sectors>(
     s: &mut S,
     version: Version,
     inode: &Inode,
-    key: u32,
+    key: u64,
     name: &[u8],
 ) -> Result<Option<FoundSlot>, DiskFault>
     requires len { (0 < length name.now) × (length name.now ≤ max_name version) }
@@ -187,7 +189,7 @@ fn find_slot<S: Sectors>(
         let found = find_by_blocks(s, version, inode, name)?;
         return Ok(found);
     }
-    let key = hint_key(inode, name);
+    let key = hint_key(s.salt(), inode, name);
     if let Some(found) = find_at_hint(s, version, inode, key, name)? {
         return Ok(Some(found));
     }
@@ -614,8 +616,9 @@ fn leave_hints<S: Sectors>(s: &mut S, inode: &Inode, slots: &[Slot])
     if inode.size <= 512 {
         return;
     }
+    let salt = s.salt();
     for (k, slot) in slots.iter().enumerate() {
-        s.leave_hint(hint_key(inode, slot.name()), k as u64);
+        s.leave_hint(hint_key(salt, inode, slot.name()), k as u64);
     }
 }
 

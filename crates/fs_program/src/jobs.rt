@@ -30,6 +30,7 @@ use sector_disk::{Disk, DiskFile, FileDisk, FileFault, MemDisk, PartDisk, PartFi
 use std::fs::{self, OpenOptions};
 use std::io::{ErrorKind, Read, Write};
 use std::os::unix::fs::OpenOptionsExt;
+use std::random::RandomSource;
 use std::rt::{Clock, Files};
 
 /// Does what the words ask for, the program's name being the first of them, and answers the status.
@@ -37,7 +38,7 @@ use std::rt::{Clock, Files};
 /// A script on the standard input is read from `input`, and replies are written to `out`: whether a call of them fails is
 /// remembered. A text that can't be written is passed over, with status 3. Who asks on a mount is known by `processes`.
 pub fn perform<
-    R: Files<File: DiskFile> + AllocGlobal + Clock,
+    R: Files<File: DiskFile> + AllocGlobal + Clock + RandomSource,
     P: Processes + Drop,
     I: Read,
     O: Write,
@@ -76,7 +77,7 @@ fn refuse<O: Write, E: Write>(fault: &WordsFault, out: &mut Watched<O>, err: &mu
 }
 
 fn perform_job<
-    R: Files<File: DiskFile> + AllocGlobal + Clock,
+    R: Files<File: DiskFile> + AllocGlobal + Clock + RandomSource,
     P: Processes + Drop,
     I: Read,
     O: Write,
@@ -319,7 +320,16 @@ fn upgrade_image<R: Files<File: DiskFile> + AllocGlobal, O: Write>(
     upgrade_disk(rt.alloc(), &mut disk, out)
 }
 
-fn serve_image<R: Files<File: DiskFile> + AllocGlobal, K: Kernel, E: Write>(
+// A number that no user knows. Where the system has no random bytes it is 0: users may then make calls slower, and change no reply.
+fn random_salt<R: RandomSource>(rt: &R) -> u64 {
+    let mut bytes = [0; 8];
+    match rt.fill_bytes(&mut bytes) {
+        Ok(()) => u64::from_le_bytes(bytes),
+        Err(_) => 0,
+    }
+}
+
+fn serve_image<R: Files<File: DiskFile> + AllocGlobal + RandomSource, K: Kernel, E: Write>(
     rt: &R,
     image: &Text,
     denials: Option<&Text>,
@@ -332,7 +342,15 @@ fn serve_image<R: Files<File: DiskFile> + AllocGlobal, K: Kernel, E: Write>(
 {
     let disk = open_image(rt, image)?;
     let mut witness = DenialList::new(rt.alloc(), open_denials(rt, denials)?);
-    serve_on_disk(rt.alloc(), disk, own_rules, kernel, &mut witness, err)
+    serve_on_disk(
+        rt.alloc(),
+        disk,
+        random_salt(rt),
+        own_rules,
+        kernel,
+        &mut witness,
+        err,
+    )
 }
 
 // Whether there is a regular file, or nothing yet. A link is followed by nobody: who made it would say where denials go.

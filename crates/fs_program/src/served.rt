@@ -55,9 +55,11 @@ fn settings_of(geometry: Geometry, own_rules: bool, start: Time) -> Settings
 }
 
 /// Mounts a disk, serves the kernel's requests from it, and unmounts, also where the serving ended early, which is told first.
+/// The salt decides nothing but where hints about names stand.
 pub(crate) fn serve_on_disk<D: Disk + Drop, K: Kernel, W: Witness, E: Write>(
     alloc: Global,
     disk: D,
+    salt: u64,
     own_rules: bool,
     kernel: &mut K,
     witness: &mut W,
@@ -72,7 +74,7 @@ pub(crate) fn serve_on_disk<D: Disk + Drop, K: Kernel, W: Witness, E: Write>(
         Ok(start) => start,
         Err(fault) => return Err(Failure::Serve(ServeFault::Clock(fault))),
     };
-    let fs = match Fs::mount(alloc, disk) {
+    let fs = match Fs::mount_salted(alloc, disk, salt) {
         Ok(fs) => fs,
         Err((fault, _)) => return Err(Failure::Mount(fault)),
     };

@@ -83,7 +83,11 @@ pub(crate) fn read_geometry<D: Disk>(disk: &mut D) -> Result<Geometry, DiskFault
 }
 
 // Settles what a stop has left, and reserves the memory of all transactions.
-fn open_store<D: Disk + Drop>(alloc: Global, disk: D) -> Result<Store<D>, (RestartFault, D)>
+fn open_store<D: Disk + Drop>(
+    alloc: Global,
+    disk: D,
+    salt: u64,
+) -> Result<Store<D>, (RestartFault, D)>
     requires { StandsForSome (D.state disk).seen }
     ensures map { IfOk result (λ store. SameMap (present D.state store) (data_of (D.state disk))) }
     ensures lasting { IfOk result (λ store. EachReadsAs (present D.state store) (D.state store.disk)) }
@@ -94,7 +98,7 @@ fn open_store<D: Disk + Drop>(alloc: Global, disk: D) -> Result<Store<D>, (Resta
     ensures quiet { IfOk result (λ store. (D.state store.disk).failed_writes ≡ (D.state disk).failed_writes) }
 {
     match Journal::open(disk) {
-        Ok(journal) => match Store::new(alloc, journal) {
+        Ok(journal) => match Store::new(alloc, journal, salt) {
             Ok(store) => Ok(store),
             Err((_, journal)) => Err((RestartFault::OutOfMemory, journal.into_disk())),
         },
@@ -105,7 +109,7 @@ fn open_store<D: Disk + Drop>(alloc: Global, disk: D) -> Result<Store<D>, (Resta
 
 impl<D: Disk + Drop> Fs<D> {
     // Mounts a disk that stands for a tree.
-    fn mount_checked(alloc: Global, disk: D) -> Result<Fs<D>, (RestartFault, D)>
+    fn mount_checked(alloc: Global, disk: D, salt: u64) -> Result<Fs<D>, (RestartFault, D)>
         requires { StandsForSome (D.state disk).seen }
         ensures mounted { IfOk result (λ fs. (s : State) × IsIn D.state fs s × Mounts (D.state disk) (disk_mounted D.state result) s) }
         ensures failed { IfErr result (λ fault. FailsToMount (D.state disk) (D.state fault.1) fault.0) }
@@ -118,7 +122,7 @@ impl<D: Disk + Drop> Fs<D> {
         let Ok(counts) = FreeCounts::new(alloc, geometry) else {
             return Err((RestartFault::OutOfMemory, disk));
         };
-        match open_store(alloc, disk) {
+        match open_store(alloc, disk, salt) {
             Ok(store) => match sweep(store, geometry) {
                 Ok(store) => Ok(Fs {
                     base: Base::Running(CountedStore::uncounted(store, counts)),
@@ -144,11 +148,21 @@ impl<D: Disk + Drop> Fs<D> {
         // A stop at any moment of the call leaves what stands for what it did before, but for files without names.
         ensures any_moment { LeavesOnly (D.state disk) (disk_mounted D.state result) (StandsAsBefore (D.state disk)) }
     {
+        Fs::mount_salted(alloc, disk, 0)
+    }
+
+    /// As [`mount`](Fs::mount), with a salt for the hints about where names stand: who doesn't know it can't make another's calls slow. No
+    /// reply depends on it.
+    pub fn mount_salted(alloc: Global, disk: D, salt: u64) -> Result<Fs<D>, (MountFault, D)>
+        ensures mounted { IfOk result (λ fs. (s : State) × IsIn D.state fs s × Mounts (D.state disk) (disk_mounted D.state result) s) }
+        ensures failed { IfErr result (λ fault. IsNotMounted (D.state disk) (D.state fault.1) fault.0) }
+        ensures any_moment { LeavesOnly (D.state disk) (disk_mounted D.state result) (StandsAsBefore (D.state disk)) }
+    {
         let mut disk = disk;
         if let Err(fault) = check(alloc, &mut disk) {
             return Err((MountFault::from(fault), disk));
         }
-        match Fs::mount_checked(alloc, disk) {
+        match Fs::mount_checked(alloc, disk, salt) {
             Ok(fs) => Ok(fs),
             Err((fault, disk)) => Err((MountFault::from(fault), disk)),
         }

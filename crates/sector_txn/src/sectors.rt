@@ -54,13 +54,19 @@ pub trait Sectors {
     fn room(&self) -> usize
         ensures { result ≡ (state self.now).room };
 
+    /// A number that keys of hints are made with. Who picks what a key is made of, and doesn't know this number, can't pick many that
+    /// share a place.
+    fn salt(&self) -> u64 {
+        0
+    }
+
     /// Leaves a hint, such as where something was found, under a key. It may be lost.
-    fn leave_hint(&mut self, _key: u32, _hint: u64)
+    fn leave_hint(&mut self, _key: u64, _hint: u64)
         ensures { IsUnchanged (state self.old) (state self.new) }
     {}
 
     /// The hint that was left under a key. Nothing is promised of it: whoever asks looks whether it is so.
-    fn hint(&self, _key: u32) -> Option<u64> {
+    fn hint(&self, _key: u64) -> Option<u64> {
         None
     }
 }

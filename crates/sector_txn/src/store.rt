@@ -88,14 +88,18 @@ impl<D: Disk> Model for Txn<D> {
 
 impl<D: Disk> Store<D> {
     /// The store of a journal. It reserves the memory of all its transactions, and of what waits, by the disk's header; the cache takes
-    /// what it finds.
-    pub fn new(alloc: Global, journal: Journal<D>) -> Result<Store<D>, (AllocError, Journal<D>)>
+    /// what it finds. Only where hints stand depends on the [`salt`](Sectors::salt).
+    pub fn new(
+        alloc: Global,
+        journal: Journal<D>,
+        salt: u64,
+    ) -> Result<Store<D>, (AllocError, Journal<D>)>
         ensures disk { MatchResult result (λ store. store.disk ≡ journal) (λ e. e.1 ≡ journal) }
         ensures map { IfOk result (λ store. SameMap (present D.state store) (data_of (D.state journal))) }
         ensures lasting { IfOk result (λ store. EachReadsAs (present D.state store) (D.state store.disk)) }
     {
         journal.tell_ready();
-        match reserved(alloc, journal.header()) {
+        match reserved(alloc, journal.header(), salt) {
             Ok((waiting, delta, last, hints)) => Ok(Store {
                 journal: CachedJournal::new(alloc, journal, last),
                 waiting,
@@ -133,6 +137,9 @@ impl<D: Disk> Store<D> {
     pub fn flush(self) -> Result<Store<D>, Broken<D>>
         ensures map { IfOk result (λ store. SameMap (present D.state store) (present D.state self)) }
 
+        // From `Ok` on it leaves what reads as the store.
+        ensures lasting { IfOk result (λ store. EachReadsAs (present D.state self) (D.state store.disk)) }
+
         // The header stays.
         ensures header { IfOk result (λ store. header_at (D.state store.disk).seen ≡ header_at (D.state self.disk).seen) }
 
@@ -141,9 +148,6 @@ impl<D: Disk> Store<D> {
 
         // Where the log has one area, all that waits goes through it: a stop leaves all of it or nothing, in free sectors too.
         ensures alone { header_at (D.state self.disk).seen ≡ 0 → LogsAll self.waiting (D.state self.disk) (D.state (disk_after result)) }
-
-        // From `Ok` on it leaves what reads as the store.
-        ensures lasting { IfOk result (λ store. EachReadsAs (present D.state self) (D.state store.disk)) }
 
         ensures cause { HasCause (D.state self.disk) (D.state (disk_after result)) result }
 
@@ -355,11 +359,15 @@ impl<D: Disk> Sectors for Txn<D> {
         most_delta(self.journal.header()) - self.delta.len()
     }
 
-    fn leave_hint(&mut self, key: u32, hint: u64) {
+    fn salt(&self) -> u64 {
+        self.hints.salt()
+    }
+
+    fn leave_hint(&mut self, key: u64, hint: u64) {
         self.hints.leave(key, hint);
     }
 
-    fn hint(&self, key: u32) -> Option<u64> {
+    fn hint(&self, key: u64) -> Option<u64> {
         self.hints.find(key)
     }
 }
@@ -377,6 +385,7 @@ fn most_delta(header: u32) -> usize
 fn reserved(
     alloc: Global,
     header: u32,
+    salt: u64,
 ) -> Result<(Waiting, Box<Batch>, Box<Batch>, Hints), AllocError>
     requires { header ≤ MAX_HEADER }
     ensures { IfOk result (λ parts. AreReserved header parts.0 parts.1.value parts.2.value) }
@@ -384,6 +393,6 @@ fn reserved(
     let waiting = Waiting::new(alloc, header)?;
     let delta = new_batch(alloc, most_delta(header))?;
     let last = new_batch(alloc, max_targets(header))?;
-    let hints = Hints::new(alloc, header)?;
+    let hints = Hints::new(alloc, header, salt)?;
     Ok((waiting, delta, last, hints))
 }

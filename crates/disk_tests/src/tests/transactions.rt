@@ -44,7 +44,7 @@ fn opened_journal<D: Disk + Drop>(disk: D) -> Option<Journal<D>>
 fn opened<D: Disk + Drop>(alloc: Global, disk: D) -> Option<Store<D>>
     ensures { IfSome result (λ store. IsSmall (D.state store.disk)) }
 {
-    match Store::new(alloc, opened_journal(disk)?) {
+    match Store::new(alloc, opened_journal(disk)?, 0) {
         Ok(store) => Some(store),
         Err(_) => None,
     }
@@ -193,8 +193,8 @@ fn hinted<D: Disk + Drop>(alloc: Global, disk: D) -> Option<[Option<u64>; 5]> {
     let (left, other) = (txn.hint(5), txn.hint(6));
     let mut later = keep(txn)?.begin();
     let found = later.hint(5);
-    later.leave_hint(69, 41);
-    let (lost, last) = (later.hint(5), later.hint(69));
+    later.leave_hint(5 + 16_384, 41);
+    let (lost, last) = (later.hint(5), later.hint(5 + 16_384));
     let _ = later.drop_delta();
     Some([left, other, found, lost, last])
 }

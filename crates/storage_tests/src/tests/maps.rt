@@ -29,7 +29,7 @@ fn opened<D: Disk + Drop>(alloc: Global, disk: D, superblock: Super) -> Option<S
     if journal.header() != superblock.header {
         return None;
     }
-    match Store::new(alloc, journal) {
+    match Store::new(alloc, journal, 0) {
         Ok(store) => Some(store),
         Err(_) => None,
     }

@@ -2,7 +2,7 @@ use Rattle.std.proofs.Common.{sym, subst}
 use Rattle.fs_system.specs.Mounts.{IsNotMounted}
 use Rattle.fs_system.specs.Seen.{disk_in}
 use Rattle.fs_system.proofs.Checked.{then_mounts, then_refused, then_stands, then_stands_for_some}
-use Rattle.fs_system.proofs.fs.Fs.mount.Goals as goal
+use Rattle.fs_system.proofs.fs.Fs.mount_salted.Goals as goal
 
 pub mount_checked-requires : goal.mount_checked-requires
 mount_checked-requires g c =
