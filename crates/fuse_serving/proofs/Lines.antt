@@ -2,11 +2,11 @@
 --     lines_behind        the lines behind the end of one
 --     named_line, last_named        a line that begins with a name
 --     some_then        what follows of what was found
-use Rattle.std.proofs.Common.{◌≡◌, ℕ, ◌+◌, ◌<◌, List, [], ◌∷◌, ◌++◌, length, map, take, drop, get_or, arith, refl, sym, ap, subst, ◌∙◌, take-append-drop, Some, None}
+use Rattle.std.proofs.Common.{◌≡◌, ℕ, ◌+◌, ◌<◌, ◌≤◌, List, [], ◌∷◌, ◌++◌, length, map, take, drop, get_or, arith, refl, sym, ap, subst, ◌∙◌, take-append-drop, Some, None}
 use Rattle.std.specs.Prelude.{zero, suc, Bool, true, false, Contains, Option, MatchOption, IfSome}
 use Rattle.std.specs.List.{slice_split, slice_index, onto_first, position_or_len}
 use Rattle.std.proofs.lemmas.Bool.{false_from_ne_true}
-use Rattle.std.proofs.lemmas.List.{map-append, get_or_default}
+use Rattle.std.proofs.lemmas.List.{map-append, get_or_default, length-append}
 use Rattle.std.proofs.lemmas.List.Splits.{slice_split-cons_yes, slice_split-cons_no, slice_split_none, slice_split_first}
 use Rattle.std.proofs.lemmas.List.Sums.{position_or_len_is}
 use Rattle.memchr.specs.Find.{IsFirstByte, is_byte}
@@ -84,6 +84,10 @@ if_some_then (Some x) said f = f x said
 pub whole_line : (line name rest : List ℕ) → take (length name) line ≡ name → rest ≡ drop (length name) line → line ≡ name ++ rest
 whole_line line name rest front behind =
     sym (take-append-drop (length name) line) ∙ ap (λ (s : List ℕ). s ++ drop (length name) line) front ∙ ap (λ (s : List ℕ). name ++ s) (sym behind)
+
+-- with one more there are no more than so many
+pub one_longer : (ids new : List ℕ) (id most : ℕ) → new ≡ ids ++ id ∷ [] → length ids < most → length new ≤ most
+one_longer ids new id most is lt = omega (arith, ap length is, length-append ids (id ∷ []), lt)
 
 pub no_bytes : (xs : List ℕ) → length xs ≡ 0 → xs ≡ []
 no_bytes [] none = refl

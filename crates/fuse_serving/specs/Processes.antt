@@ -13,7 +13,7 @@ use Rattle.fuse_serving.specs.Exchanges.{Exchange, Reads, ReadsEnd, Writes, Lear
 use Rattle.fuse_serving.specs.Status.{SaysCaller}
 
 pub data Showing : Type 0 where
-  -- the text of the status of the process with this number: proc(5)
+  -- the text of the status of the process with this number, or the front of a long one: proc(5)
   Status : ℕ → List ℕ → Showing
   -- the name of the user namespace that it is in: user_namespaces(7)
   Users : ℕ → List ℕ → Showing

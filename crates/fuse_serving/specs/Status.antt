@@ -1,10 +1,10 @@
 -- What /proc/PID/status says of a process: proc(5).
 --     HasLine        a line of the text begins so
 --     SaysNumber, SaysIds        digits, and numbers with spaces between them
---     SaysGroups, SaysCaps        the supplementary groups; which capabilities are in effect
+--     SaysGroups, SaysCaps        the supplementary groups, where they aren't too many; which capabilities are in effect
 --     SaysLastId, ActsAs        as which user and group it acts on files
 --     SaysCaller        what is known of it is what the text says
-use Rattle.std.specs.Prelude.{◌≡◌, ℕ, ◌^◌, ◌<◌, ◌==◌, Bool, List, [], ◌∷◌, ◌++◌, codes, bit_and, Contains, drop, ◌+◌, ◌⊎◌, IfSome}
+use Rattle.std.specs.Prelude.{◌≡◌, ℕ, ◌^◌, ◌<◌, ◌≤◌, ◌==◌, Bool, List, [], ◌∷◌, ◌++◌, length, codes, bit_and, Contains, drop, ◌+◌, ◌⊎◌, IfSome}
 use Rattle.std.specs.List.{slice_split, slice_index}
 use Rattle.std.specs.Str.Parse.{IsNumeral, digits_value, without_leading_plus}
 use Rattle.fs_cred.specs.declared.caps.Caps.{Caps}
@@ -37,10 +37,15 @@ pub data SaysIds : List (List ℕ) → List ℕ → Type 0 where
 abbrev pub groups_name : List ℕ
 groups_name = codes "Groups:\t"
 
+-- Of who is in more groups than these none is known: each of its requests would take long.
+abbrev pub known_groups_limit : ℕ
+known_groups_limit = 4096
+
 pub record SaysGroups (text groups : List ℕ) : Type 0 where
   pub rest : List ℕ
   pub line : HasLine text groups_name rest
   pub ids : SaysIds (slice_split is_blank_byte rest) groups
+  pub few : length groups ≤ known_groups_limit
 
 abbrev pub tab : ℕ
 tab = 9

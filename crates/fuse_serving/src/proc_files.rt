@@ -3,14 +3,14 @@ ghost use Rattle.std.specs.Prelude.{◌≤◌, length, IfOk};
 
 use crate::processes::Processes;
 use std::alloc::{AllocError, Global};
-use std::fs;
-use std::io::{self, Read, Seek, SeekFrom};
 use std::os::unix::fs::FileExt;
 use std::path::PathBuf;
 use std::rt::Files;
+use std::{fs, io};
 
-// Of /proc/PID/status one read gives so many bytes at least, or all: that is room for some 2,000 groups, which few processes have.
-const STATUS_ROOM: usize = 16_384;
+// Of /proc/PID/status so many bytes are read, or all. Its groups stand near the front, and 4,096 of them take 45,056 bytes at most, so the
+// front has them and the capabilities behind them, or more groups than are known.
+const STATUS_ROOM: usize = 65_536;
 
 // The status of a process, which stays open: to open it anew takes longer than to read it.
 #[derive(Drop)]
@@ -29,20 +29,12 @@ pub struct ProcFiles<R: Files> {
     last: Option<Seen<R::File>>,
 }
 
-// Reads all of a file of /proc from its beginning, and tells how many bytes that is. A read that gives less than was asked for has given
-// its end; else all is read anew, so that it is of one moment.
-fn read_all<F: FileExt + Read + Seek>(file: &mut F, room: &mut Vec<u8>) -> io::Result<usize>
+// Reads the front of a file of /proc, and tells how many bytes that is. It is one read, so that all is of one moment.
+fn read_front<F: FileExt>(file: &F, room: &mut Vec<u8>) -> io::Result<usize>
     ensures { IfOk result (λ size. size ≤ length room.new.items) }
 {
     room.resize(STATUS_ROOM, 0)?;
-    let size = file.read_at(room, 0)?;
-    if size < STATUS_ROOM {
-        return Ok(size);
-    }
-    room.clear();
-    file.seek(SeekFrom::Start(0))?;
-    file.read_to_end(room)?;
-    Ok(room.len())
+    file.read_at(room, 0)
 }
 
 impl<R: Files<File: FileExt> + AllocGlobal> ProcFiles<R> {
@@ -67,8 +59,8 @@ impl<R: Files<File: FileExt> + AllocGlobal> ProcFiles<R> {
         ensures { IfOk result (λ size. size ≤ length room.new.items) }
     {
         self.name_file(pid, "status")?;
-        let mut status = fs::open(&self.rt, self.path.as_str())?;
-        let size = read_all(&mut status, room)?;
+        let status = fs::open(&self.rt, self.path.as_str())?;
+        let size = read_front(&status, room)?;
         self.last = Some(Seen { pid, status });
         Ok(size)
     }
@@ -82,9 +74,9 @@ impl<R: Files<File: FileExt> + AllocGlobal> Processes for ProcFiles<R> {
     // What is open of the process that was looked up last tells of that process alone: once it has ended reading fails, also where
     // another has got its number.
     fn read_status(&mut self, pid: u32, room: &mut Vec<u8>) -> io::Result<usize> {
-        if let Some(last) = &mut self.last {
+        if let Some(last) = &self.last {
             if last.pid == pid {
-                if let Ok(size) = read_all(&mut last.status, room) {
+                if let Ok(size) = read_front(&last.status, room) {
                     return Ok(size);
                 }
             }

@@ -14,7 +14,7 @@ pub trait Processes {
     /// From one state to another by what is shown.
     ghost Shows: { Self → Showing → Self → Type 0 };
 
-    /// How many bytes the status of a process has, which then stand at the front of the room.
+    /// How many bytes the status of a process has, which then stand at the front of the room; of a long status the front.
     fn read_status(&mut self, pid: u32, room: &mut Vec<u8>) -> io::Result<usize>
         ensures shows { IfOk result (λ size. Shows self.old (Status pid (take size room.new.items)) self.new) }
         ensures fits { IfOk result (λ size. size ≤ length room.new.items) };

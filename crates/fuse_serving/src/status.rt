@@ -1,8 +1,8 @@
 //! What /proc/PID/status says of a process.
-ghost use Rattle.std.specs.Prelude.{◌≡◌, ◌≤◌, ◌⊎◌, List, Some, IfOk, IfSome, IsTrue, drop};
+ghost use Rattle.std.specs.Prelude.{◌≡◌, ◌≤◌, ◌⊎◌, List, Some, IfOk, IfSome, IsTrue, drop, length};
 ghost use Rattle.std.specs.List.{slice_split};
 ghost use Rattle.fs_cred.specs.Capabilities.{no_caps};
-ghost use Rattle.fuse_serving.specs.Status.{is_blank_byte, HasLine, SaysNumber, SaysIds, SaysGroups, SaysLastId, ActsAs, SaysCaps, SaysCaller};
+ghost use Rattle.fuse_serving.specs.Status.{is_blank_byte, known_groups_limit, HasLine, SaysNumber, SaysIds, SaysGroups, SaysLastId, ActsAs, SaysCaps, SaysCaller};
 ghost use Rattle.fuse_serving.specs.Processes.{IsUnknown};
 
 use crate::caller::{Caller, Groups};
@@ -11,6 +11,9 @@ use fs_cred::Caps;
 use memchr::{memchr, memmem};
 use std::alloc::{AllocError, Global};
 use std::str;
+
+// Of who is in more groups than these none is known.
+const MAX_KNOWN_GROUPS: usize = 4_096;
 
 // Of the capabilities in effect those that are asked here: the lowest five.
 const ASKED_CAPS: u64 = 31;
@@ -58,9 +61,10 @@ fn bits_of(word: &[u8]) -> Option<u64>
     Some(bits)
 }
 
-// Numbers with spaces between them, and perhaps behind them.
+// Numbers with spaces between them, and perhaps behind them. Behind the last that may be known no more is read.
 fn ids_of(alloc: Global, text: &[u8]) -> Result<Option<Groups>, AllocError>
-    ensures { IfOk result (λ groups. IfSome groups (SaysIds (slice_split is_blank_byte text.now))) }
+    ensures ids { IfOk result (λ groups. IfSome groups (SaysIds (slice_split is_blank_byte text.now))) }
+    ensures few { IfOk result (λ groups. IfSome groups (λ ids. length ids ≤ known_groups_limit)) }
 {
     let mut groups = Groups::new(alloc);
     for word in text.split(|byte| *byte == b' ') {
@@ -70,12 +74,15 @@ fn ids_of(alloc: Global, text: &[u8]) -> Result<Option<Groups>, AllocError>
         let Some(id) = id_of(word) else {
             return Ok(None);
         };
+        if groups.ids().len() >= MAX_KNOWN_GROUPS {
+            return Ok(None);
+        }
         groups.push(id)?;
     }
     Ok(Some(groups))
 }
 
-// The supplementary groups, where the text says them all.
+// The supplementary groups, where the text says them all, and they aren't too many.
 fn groups_of(alloc: Global, text: &[u8]) -> Result<Option<Groups>, AllocError>
     ensures { IfOk result (λ groups. IfSome groups (SaysGroups text.now)) }
 {
@@ -118,7 +125,8 @@ fn caps_of(text: &[u8]) -> Option<Caps>
 /// What the text says of a process that asks as this user and this group: the text that Linux shows as /proc/PID/status.
 ///
 /// Where that says another user or group, as of a program that serves others, or of one that has changed its own meanwhile, the
-/// process isn't who asks, and nothing is known. Where it says no capabilities there are none.
+/// process isn't who asks, and nothing is known; nor where it says no groups, or more than are read. Where it says no capabilities there
+/// are none.
 pub fn caller_of_status(
     alloc: Global,
     text: &[u8],
@@ -130,10 +138,15 @@ pub fn caller_of_status(
     if !acts_as(text, uid, gid) {
         return Ok(Caller::unknown());
     }
-    let groups = groups_of(alloc, text)?;
+    let Some(groups) = groups_of(alloc, text)? else {
+        return Ok(Caller::unknown());
+    };
     let caps = match caps_of(text) {
         Some(caps) => caps,
         None => Caps::empty(),
     };
-    Ok(Caller { groups, caps })
+    Ok(Caller {
+        groups: Some(groups),
+        caps,
+    })
 }

@@ -181,6 +181,36 @@ static TEXTS: [(&[u8], Known); 9] = [
     (b"", (None, 0)),
 ];
 
+// How many groups, and what is known then.
+static CROWDED: [(u32, Known); 2] = [(4_096, (Some((4_096, Some(4_096))), 9)), (4_097, (None, 0))];
+
+// The status of a process that is in so many groups: 1, 2 and so on.
+fn crowded_status(alloc: Global, count: u32) -> Result<String, AllocError> {
+    let mut text = format!(in alloc; "Uid:\t0\t0\t0\t1000\nGid:\t0\t0\t0\t100\nGroups:\t")?;
+    for group in 1..=count {
+        write!(text, "{group} ")?;
+    }
+    write!(text, "\nCapEff:\t0000000000000009\n")?;
+    Ok(text)
+}
+
+// What is known of such a process.
+fn known_crowded(alloc: Global, count: u32) -> Result<Known, AllocError> {
+    let status = crowded_status(alloc, count)?;
+    let known = known_in(alloc, status.as_bytes(), 1000, 100);
+    mem::drop(status);
+    known
+}
+
+#[test]
+fn what_proc_tells_of_many_groups(rt: HostRuntime) -> Result<(), Fail> {
+    for (count, wanted) in &CROWDED {
+        let seen = known_crowded(rt.alloc(), *count)?;
+        assert!(rt; seen == *wanted, "{count}: {seen:?}");
+    }
+    Ok(())
+}
+
 #[test]
 fn what_proc_tells(rt: HostRuntime) -> Result<(), Fail> {
     for (status, wanted) in &TEXTS {
