@@ -9,6 +9,7 @@ import subprocess
 import time
 
 from mounted_crowds import crowds
+from mounted_denials import denials
 from mounts import TOP, as_user, attempt, in_child
 
 LIBC = ctypes.CDLL(None, use_errno=True)
@@ -180,4 +181,5 @@ def strangers(mounted, told):
     told.compare('ends', 'SIGTERM to the server and its helper', None,
                  found_after(mounted, lambda: terminated(mounted)), ('clean', ['ann', 'kept', 'last']))
     mounted.options.pop()
+    denials(mounted, told)
     crowds(mounted, told)

@@ -1,8 +1,7 @@
 -- The lines of denials.
 --     request_name, name_asked, name_text        what was asked for, and for which name
 --     who_text, asked_text, denial_words, denial_line        the line
---     line_start        what stands before it where the last one was cut short
-use Rattle.std.specs.Prelude.{ℕ, ◌%◌, ◌^◌, Bool, true, false, List, [], ◌++◌, Option, None, Some, codes}
+use Rattle.std.specs.Prelude.{ℕ, ◌%◌, ◌^◌, List, ◌++◌, Option, None, Some, codes}
 use Rattle.std.specs.Fmt.{decimal}
 use Rattle.fs_cred.specs.declared.refusal.Denial.{Denial}
 use Rattle.fs_cred.specs.declared.refusal.Refusal.TheVariants.{Denied}
@@ -75,8 +74,3 @@ abbrev pub denial_line : Time → Request → Denial → List ℕ
 denial_line now request denial =
     who_text now request
     ++ (asked_text request ++ (name_text request.operation ++ (codes " " ++ (denial_words denial ++ codes "\n"))))
-
--- where a part of a line may be all that was written of it, that is ended first
-abbrev pub line_start : Bool → List ℕ
-line_start true = codes "\n"
-line_start false = []

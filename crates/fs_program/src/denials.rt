@@ -1,9 +1,8 @@
-//! Denials, a line each.
+//! Denials, a line each, as far as a second has room for them.
 
 ghost use Rattle.std.specs.Prelude.{◌≡◌, ◌++◌, IfOk, OnOk, string_bytes};
 ghost use Rattle.std.specs.Option.{option_copied};
-ghost use Rattle.std.specs.Io.KnownBytes.{Appends};
-ghost use Rattle.fs_program.specs.Denials.{request_name, name_asked, name_text, inode_number, who_text, asked_text, denial_words, denial_line, line_start};
+ghost use Rattle.fs_program.specs.Denials.{request_name, name_asked, name_text, inode_number, who_text, asked_text, denial_words, denial_line};
 
 use fs_cred::{Denial, Refusal};
 use fs_lines::{reply_text, word_text};
@@ -12,15 +11,14 @@ use fuse_plans::{RequestError, Response};
 use fuse_protocol::{Operation, Request, Time};
 use fuse_serving::Witness;
 use std::alloc::{AllocError, Global};
-use std::io::{self, Write};
+use std::io::Write;
+use user_lines::UserLines;
 
-/// Writes a line for each request that was denied by a rule, if there is something to write to. A line that can't be written is
-/// left out; where a part of it may have been, as on a full device, the next one begins with the end of that.
+/// Tells of each request that was denied by a rule, if there is something to write to: by a line, or by how many had none.
 #[derive(Drop)]
 pub(crate) struct DenialList<W> {
     alloc: Global,
-    out: Option<W>,
-    is_cut: bool,
+    lines: Option<UserLines<W>>,
 }
 
 impl<W> DenialList<W> {
@@ -28,8 +26,16 @@ impl<W> DenialList<W> {
     pub(crate) fn new(alloc: Global, out: Option<W>) -> DenialList<W> {
         DenialList {
             alloc,
-            out,
-            is_cut: false,
+            lines: out.map(|out| UserLines::new(alloc, out)),
+        }
+    }
+}
+
+impl<W: Write> DenialList<W> {
+    /// Tells what is still to be told, as there are no more requests. On a device that is full it can't.
+    pub(crate) fn end(&mut self) {
+        if let Some(lines) = &mut self.lines {
+            let _ = lines.end();
         }
     }
 }
@@ -37,23 +43,14 @@ impl<W> DenialList<W> {
 impl<W: Write> Witness for DenialList<W> {
     fn see(&mut self, request: &Request<'_>, response: &Response, now: Time) {
         if let Response::Fails(RequestError::Refuses(Refusal::Denied(denial))) = response {
-            if let Some(out) = &mut self.out {
-                if let Ok(line) = denial_line(self.alloc, request, *denial, now) {
-                    self.is_cut = write_line(out, self.is_cut, &line).is_err();
+            if let Some(lines) = &mut self.lines {
+                match denial_line(self.alloc, request, *denial, now) {
+                    Ok(line) => lines.tell(now.seconds, request.uid, &line),
+                    Err(_) => lines.leave_out(now.seconds, request.uid),
                 }
             }
         }
     }
-}
-
-// Writes a line, and the end of the last one before it where that was cut short.
-fn write_line<W: Write>(out: &mut W, is_cut: bool, line: &String) -> io::Result<()>
-    ensures { OnOk result (Appends (W.contents out.old) (W.contents out.new) (line_start is_cut ++ string_bytes line.now)) }
-{
-    if is_cut {
-        out.write_all(b"\n")?;
-    }
-    out.write_all(line.as_bytes())
 }
 
 // Adds when it was denied, to which user and to which process.

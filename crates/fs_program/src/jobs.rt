@@ -27,11 +27,14 @@ use fs_shell::Watched;
 use fuse_serving::{Kernel, Processes, Standard};
 use host_trees::{CopyFault, Given};
 use sector_disk::{Disk, DiskFile, FileDisk, FileFault, MemDisk, PartDisk, PartFile};
-use std::fs::{self, OpenOptions};
-use std::io::{ErrorKind, Read, Write};
-use std::os::unix::fs::OpenOptionsExt;
+use std::fs::{self, OpenFile, OpenOptions, Permissions};
+use std::io::{self, ErrorKind, Read, Write};
+use std::os::unix::fs::{MetadataExt, OpenOptionsExt, PermissionsExt};
 use std::random::RandomSource;
 use std::rt::{Clock, Files};
+
+// The mode of a file that is its owner's alone.
+const PRIVATE_FILE: u32 = 0o600;
 
 /// Does what the words ask for, the program's name being the first of them, and answers the status.
 ///
@@ -342,7 +345,7 @@ fn serve_image<R: Files<File: DiskFile> + AllocGlobal + RandomSource, K: Kernel,
 {
     let disk = open_image(rt, image)?;
     let mut witness = DenialList::new(rt.alloc(), open_denials(rt, denials)?);
-    serve_on_disk(
+    let served = serve_on_disk(
         rt.alloc(),
         disk,
         random_salt(rt),
@@ -350,35 +353,53 @@ fn serve_image<R: Files<File: DiskFile> + AllocGlobal + RandomSource, K: Kernel,
         kernel,
         &mut witness,
         err,
-    )
+    );
+    witness.end();
+    served
 }
 
-// Whether there is a regular file, or nothing yet. A link is followed by nobody: who made it would say where denials go.
-fn is_file_or_absent<R: Files>(rt: &R, path: &str) -> bool {
-    match fs::symlink_metadata(rt, path) {
-        Ok(metadata) => metadata.is_file(),
-        Err(error) => error.kind() == ErrorKind::NotFound,
-    }
-}
-
-// The file for denials, if one is named, made for its owner alone. What it has stays, and lines are added. Anything but a regular file
-// is refused: a pipe would keep the server waiting.
+// The file for denials, if one is named.
 fn open_denials<R: Files>(rt: &R, path: Option<&Text>) -> Result<Option<R::File>, Failure>
     ensures { IfErr result (λ failure. (failure ≡ Failure.NoDenials) × IsSome (option_copied path.entry)) }
 {
     let Some(path) = path else {
         return Ok(None);
     };
-    if !is_file_or_absent(rt, path.as_str()) {
-        return Err(Failure::NoDenials);
-    }
-    match OpenOptions::new()
-        .append(true)
-        .create(true)
-        .mode(0o600)
-        .open(rt, path.as_str())
-    {
+    match open_list(rt, path.as_str()) {
         Ok(file) => Ok(Some(file)),
         Err(_) => Err(Failure::NoDenials),
     }
+}
+
+// Makes a file for its owner alone, or opens the one that is there.
+fn open_list<R: Files>(rt: &R, path: &str) -> io::Result<R::File> {
+    match OpenOptions::new()
+        .append(true)
+        .create_new(true)
+        .mode(PRIVATE_FILE)
+        .open(rt, path)
+    {
+        Ok(file) => Ok(file),
+        Err(error) if error.kind() == ErrorKind::AlreadyExists => open_present(rt, path),
+        Err(error) => Err(error),
+    }
+}
+
+// Opens a file that is there: what it has stays, lines are added, and from now on it is its owner's alone. Anything but a regular file is
+// refused before it is opened: a pipe would keep the server waiting, and who made a link would say where denials go. So is a file that
+// somebody has put there in between.
+fn open_present<R: Files>(rt: &R, path: &str) -> io::Result<R::File> {
+    let seen = fs::symlink_metadata(rt, path)?;
+    if !seen.is_file() {
+        return Err(io::Error::from(ErrorKind::InvalidInput));
+    }
+    let file = OpenOptions::new().append(true).open(rt, path)?;
+    let opened = file.metadata()?;
+    if (opened.dev(), opened.ino()) != (seen.dev(), seen.ino()) {
+        return Err(io::Error::from(ErrorKind::InvalidInput));
+    }
+    if opened.mode() & 0o7777 != PRIVATE_FILE {
+        file.set_permissions(Permissions::from_mode(PRIVATE_FILE))?;
+    }
+    Ok(file)
 }
