@@ -1,7 +1,10 @@
 """What mkfs(8) and fsck(8) call: the helpers' statuses and texts, beside a mounted image and a damaged one."""
+import os
+import shutil
+import stat
 import subprocess
 
-from mounts import TOP
+from mounts import ACLS, TOP, acl_bytes, acls_of
 
 ROOT_MODE = 130 * 512 + 128 + 2  # where an image of 1,024 sectors has the mode of inode 1
 
@@ -58,3 +61,26 @@ def helpers(mounted, told):
     for words, said in REFUSALS:
         expect('mkfs', (*words, image), 1, said)
     told.compare('Helpers', 'what was refused left no file', None, image.exists(), False)
+    lists_of_trees(mounted, told, expect)
+
+
+def lists_of_trees(mounted, told, expect):
+    """What has an access list in a tree is named, and its mode is kept, in which the mask stands as the group's bits."""
+    if not shutil.which('getfacl'):
+        print('helpers: access lists of a tree: not tried, getfacl is not here')
+        return
+    tree = mounted.folder / 'tree'
+    (tree / 'plain').mkdir(parents=True)
+    listed = tree / 'plain/with a list'
+    listed.touch()
+    mounted.image.unlink(missing_ok=True)
+    words = '--size', '1M', '--from', tree, mounted.image
+    expect('mkfs', words, 0, '')
+    os.setxattr(listed, ACLS['access'], acl_bytes('u::rw-,u:1000:rwx,g::---,m::rwx,o::---'))
+    mounted.image.unlink()
+    expect('mkfs', words, 1, f'mkfs.inofs: {listed}: of its access list only the mode is kept\n')
+    mounted.begin()
+    copy = mounted.mount / 'plain/with a list'
+    told.compare('Helpers', 'mode and lists of its copy', None, (oct(stat.S_IMODE(copy.stat().st_mode)), acls_of(copy)), ('0o670', {}))
+    mounted.end()
+    shutil.rmtree(tree)

@@ -530,7 +530,9 @@ fn pack_command<'a>(alloc: Global) -> Result<Command<'a>, AllocError>
         "Make an image of the third layout with the tree of a directory",
         "The image, which must not exist",
     )?
-    .arg(directory(alloc).help("The directory"))?;
+    .arg(directory(alloc).help(
+        "The directory; of its access lists the masks become groups' bits",
+    ))?;
     with_size(alloc, command)?
         .arg(number(alloc, "uid", 0, 4294967295).help(
             "The user of all; without it each one's own",
