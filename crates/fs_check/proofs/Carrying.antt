@@ -13,7 +13,9 @@ use Rattle.fs_model.specs.Rules.{IsGeometryOf, ImageRule, rule_number, ObeysEach
 use Rattle.fs_check.specs.declared.faults.CheckFault.{CheckFault}
 use Rattle.fs_check.specs.declared.faults.CheckFault.TheVariants.{Found, DiskFault, OutOfMemory}
 use Rattle.fs_check.specs.declared.owning.Pointers.{Pointers}
-use Rattle.fs_check.specs.Owning.{AreAtHand, HasLevelInData, HasAboveInData, OwnsData}
+use Rattle.fs_check.specs.declared.marks.Marks.{Marks}
+use Rattle.fs_check.specs.Counts.{times_reached, AreInDataArea, IsMarked, AreMarks, AddsOwners}
+use Rattle.fs_check.specs.Owning.{AreAtHand, HasAboveInData, OwnsData}
 use Rattle.fs_check.specs.Checks.{meaning, BeginsWith, AreInodes, AreTested, IsReason, Passed, IsNone, IsLeast, IsFirst, IsFailureOf}
 use Rattle.fs_model.proofs.Findings.{next_obeyed}
 
@@ -45,11 +47,19 @@ module _ {old mid : DiskState} (reads : OnlyReads old mid) where
   pub hand_back : (q : Pointers) → AreAtHand (meaning mid) q → AreAtHand (meaning old) q
   hand_back q x = subst (λ m. AreAtHand m q) meaning_same x
 
+  -- the marks of so many owners
+  pub marks_still : (p : Geometry) (counts : ℕ → ℕ) (marks : Marks) → IsMarked p (meaning old) counts marks → AreMarks p (meaning mid) marks
+  marks_still p counts marks x = (counts, subst (λ m. IsMarked p m counts marks) (sym meaning_same) x)
+
+  pub reached_back : (p : Geometry) (level q : ℕ) → AreInDataArea p (times_reached (meaning mid) level q) → AreInDataArea p (times_reached (meaning old) level q)
+  reached_back p level q x = subst (λ m. AreInDataArea p (times_reached m level q)) meaning_same x
+
+  pub adds_back : (p : Geometry) (level q : ℕ) (marks then : Marks) → AddsOwners p (meaning mid) (times_reached (meaning mid) level q) marks then
+      → AddsOwners p (meaning old) (times_reached (meaning old) level q) marks then
+  adds_back p level q marks then x = subst (λ m. AddsOwners p m (times_reached m level q) marks then) meaning_same x
+
   pub owns_still : (p : Geometry) (v : Inode) → OwnsData p (meaning old) v → OwnsData p (meaning mid) v
   owns_still p v x = subst (λ m. OwnsData p m v) (sym meaning_same) x
-
-  pub level_still : (p : Geometry) (v : Inode) (level : ℕ) → HasLevelInData p (meaning old) v level → HasLevelInData p (meaning mid) v level
-  level_still p v level x = subst (λ m. HasLevelInData p m v level) (sym meaning_same) x
 
   pub above_still : (p : Geometry) (v : Inode) (level : ℕ) → HasAboveInData p (meaning old) v level → HasAboveInData p (meaning mid) v level
   above_still p v level x = subst (λ m. HasAboveInData p m v level) (sym meaning_same) x

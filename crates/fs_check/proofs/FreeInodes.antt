@@ -1,13 +1,12 @@
 -- Free inodes.
 use Rattle.std.specs.Prelude.{◌≡◌, ℕ, ◌+◌, ◌<◌, ◌≤◌, List, length, get_or, drop, Ok}
-use Rattle.std.proofs.Common.{refl, sym, ap, arith, ◌∙◌, inl, inr}
-use Rattle.std.proofs.lemmas.Bool.{cases_eq}
+use Rattle.std.proofs.Common.{refl, sym, ap, arith, ◌∙◌}
 use Rattle.std.proofs.lemmas.List.{ext_get_or, length-take-le, length-drop}
 use Rattle.fs_layout.specs.declared.inode.TheConstants.{INODE_SIZE}
 use Rattle.fs_layout.specs.declared.version.Version.{Version}
 use Rattle.fs_layout.specs.Bytes.{SectorMap, window, zeros, le16, le32, le64, le32s}
 use Rattle.fs_layout.specs.Inode.{inode_bytes, inode_of, free_inode}
-use Rattle.fs_layout.specs.Images.{Owns, Part, part}
+use Rattle.fs_layout.specs.Images.{Owns}
 use Rattle.fs_layout.proofs.Free.{free_fits, free_has_no_sector, owns_nothing, holds_nothing}
 use Rattle.fs_layout.proofs.InodeLaw.{inode_again}
 use Rattle.fs_layout.proofs.SplicedBytes.{get_or-zeros}
@@ -40,12 +39,6 @@ free_is_allowed version = record { size = λ e. cc; indirect = λ level le. free
 
 pub free_owns_nothing : (m : SectorMap) (s : ℕ) → Owns m free_inode s → ⊥
 free_owns_nothing m s o = owns_nothing m free_inode s free_has_no_sector o
-
-pub free_part : (m : SectorMap) (a : Part) → part m free_inode a ≡ 0
-free_part m a = elim (cases_eq (part m free_inode a) 0) [
-  | inl e ↦ e
-  | inr some ↦ absurd (free_owns_nothing m (part m free_inode a) (record { at = a; is = refl; some = some }))
-]
 
 pub free_is_laid_out : (m : SectorMap) → IsLaidOut m free_inode
 free_is_laid_out m =

@@ -5,6 +5,7 @@ pub mod BitTests
 pub mod Carrying
 pub mod Clean
 pub mod Climbing
+pub mod Counts
 pub mod DataNumbers
 pub mod Failures
 pub mod DirectorySlots
@@ -14,12 +15,12 @@ pub mod FitNumbers
 pub mod FreeInodes
 mod FreeSectors
 pub mod KindTests
-pub mod MarkedParts
-pub mod Marks
 pub mod Namings
 pub mod Openings
 pub mod OwnedParts
+pub mod Reached
 pub mod Sizes
+pub mod Sums
 pub mod TableSectors
 pub mod Tables
 pub mod Tallies

@@ -1,12 +1,12 @@
 -- What directories name, counted.
-use Rattle.std.specs.Prelude.{◌≡◌, ◌≢◌, ℕ, zero, suc, ◌+◌, ◌-◌, ◌*◌, ◌/◌, ◌<◌, ◌≤◌, ◌^◌, ◌==◌, MatchOption, Bool, true, false, cond, List, [], length, get_or, take}
+use Rattle.std.specs.Prelude.{◌≡◌, ◌≢◌, ℕ, zero, suc, ◌+◌, ◌-◌, ◌*◌, ◌/◌, ◌<◌, ◌≤◌, ◌^◌, ◌==◌, MatchOption, Bool, true, false, cond, List, length, get_or, take}
 use Rattle.std.specs.Prelude.{set, count_by, sum_by, Option, Some, None, Ok, Err, IsTrue, ◌↔◌}
 use Rattle.std.specs.List.{range_with_len}
 use Rattle.std.specs.Option.{is_some}
 use Rattle.std.proofs.Common.{refl, sym, ap, arith, ◌∙◌, subst, inl, inr, get_or-set_other, get_or-set_same, length-set}
 use Rattle.std.proofs.lemmas.Bool.{cases_eq, eq-eqb, ne_eqb}
 use Rattle.std.proofs.lemmas.List.FromFn.{fill_by_all, length-range_with_len}
-use Rattle.std.proofs.lemmas.List.Sums.{sum_by-cons, sum_by_more, count_by-le-length}
+use Rattle.std.proofs.lemmas.List.Sums.{sum_by_more, count_by-le-length}
 use Rattle.fs_layout.specs.declared.inode.TheConstants.{MAX_DIRECTORY_SIZE}
 use Rattle.fs_layout.specs.declared.slot.TheConstants.{SLOT_SIZE}
 use Rattle.fs_layout.specs.declared.fault.LayoutFault.TheVariants.{BadNumber, NotZero}
@@ -26,6 +26,7 @@ use Rattle.fs_layout.proofs.SlotNames.{slots_naming}
 use Rattle.fs_model.specs.Rules.{IsGoodInode, NamesApart, Obeys, ObeysEach, IsLeastFailure, namings_in, is_directory_kind}
 use Rattle.fs_model.proofs.BuiltNodes.{directory_fits}
 use Rattle.fs_layout.proofs.Codecs.{same_ok}
+use Rattle.fs_check.proofs.Sums.{sum_more}
 use Rattle.fs_check.proofs.Tables.{more_good}
 use Rattle.fs_check.proofs.Tests.{free_behind}
 use Rattle.fs_check.specs.Checks.{AreInodes, IsNameTable, IsNamedBy}
@@ -150,15 +151,6 @@ few_namings version m v n small = go v.kind refl
         omega (arith, size, some, few, long)
 
 -- ---- sums
-
-sum_more : (f : ℕ → ℕ) (a n : ℕ) → sum_by f (range_with_len a (suc n)) ≡ sum_by f (range_with_len a n) + f (a + n)
-sum_more f a zero = let one = sum_by-cons f a [] in let same = ap f (let e : a + 0 ≡ a = omega arith in e) in omega (arith, one, same)
-sum_more f a (suc n) =
-    let whole = sum_by-cons f a (range_with_len (a + 1) (suc n)) in
-    let rest = sum_more f (a + 1) n in
-    let part = sum_by-cons f a (range_with_len (a + 1) n) in
-    let same = ap f (let e : a + 1 + n ≡ a + suc n = omega arith in e) in
-    omega (arith, whole, rest, part, same)
 
 sum_next : (f : ℕ → ℕ) (n : ℕ) → sum_by f (range_with_len 0 (n + 1)) ≡ sum_by f (range_with_len 0 n) + f n
 sum_next f n = ap (λ k. sum_by f (range_with_len 0 k)) (let e : n + 1 ≡ suc n = omega arith in e) ∙ sum_more f 0 n

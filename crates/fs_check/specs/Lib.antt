@@ -1,4 +1,5 @@
 pub mod BitTables
+pub mod Counts
 pub mod Owning
 pub mod LastBlocks
 pub mod Checks

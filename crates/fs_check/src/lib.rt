@@ -13,6 +13,7 @@ mod faults;
 mod inodes;
 mod loading;
 mod marking;
+mod marks;
 mod names;
 mod opening;
 mod owning;

@@ -6,6 +6,7 @@ ghost use Rattle.std.specs.Prelude.{◌≡◌, ◌+◌, ◌≤◌};
 ghost use Rattle.fs_layout.specs.declared.inode.TheConstants.{POINTER_LEVELS};
 ghost use Rattle.fs_layout.specs.declared.header.TheConstants.{MAX_HEADER};
 
+use crate::owning::number_at;
 use crate::recovering::{content_of, geometry_said};
 use fs_layout::{
     COMMIT_SECTOR, Commit, Geometry, INODE_SIZE, Inode, Kind, MAX_BLOCKS, MAX_HEADER,
@@ -204,7 +205,7 @@ fn want_named(numbers: &mut Vec<u32>, inodes: &[Inode]) -> Result<(), AllocError
     Ok(())
 }
 
-// The sectors of pointers that others list, from the top.
+// The sectors of pointers that others list, from the top. Each is looked through once for a level, however often it is named.
 fn load_pointers<F: DiskFile + Drop>(
     alloc: Global,
     part: &mut PartFile<F>,
@@ -213,66 +214,59 @@ fn load_pointers<F: DiskFile + Drop>(
 ) -> Result<(), FileFault>
     ensures { F.held part.new.file ≡ F.held part.old.file }
 {
+    let mut holders = Vec::new(alloc);
     let mut level = POINTER_LEVELS;
     while level > 1 {
-        load_listed(alloc, part, log, inodes, level)?;
+        want_holders(&mut holders, inodes, level)?;
+        let mut listed = Vec::new(alloc);
+        want_listed(&mut listed, part, log, &holders)?;
+        part.load_each(&listed)?;
+        holders = listed;
         level -= 1;
     }
     Ok(())
 }
 
-fn load_listed<F: DiskFile + Drop>(
-    alloc: Global,
-    part: &mut PartFile<F>,
-    log: &Log,
-    inodes: &[Inode],
-    level: usize,
-) -> Result<(), FileFault>
-    requires lowest { 1 ≤ level }
-    requires highest { level ≤ POINTER_LEVELS }
-    ensures { F.held part.new.file ≡ F.held part.old.file }
-{
-    let mut numbers = Vec::new(alloc);
-    want_listed(&mut numbers, part, log, inodes, level)?;
-    part.load_each(&numbers)
+fn sort_without_repeats(numbers: &mut Vec<u32>) -> Result<(), AllocError> {
+    numbers.sort()?;
+    numbers.dedup();
+    Ok(())
 }
 
-// What the sectors of pointers of a level list. There are no more of them than sectors, unless the disk is damaged.
-fn want_listed<F: DiskFile + Drop>(
-    numbers: &mut Vec<u32>,
-    part: &PartFile<F>,
-    log: &Log,
-    inodes: &[Inode],
-    level: usize,
-) -> Result<(), AllocError>
+// The sectors of pointers of a level that inodes name, with those that are there.
+fn want_holders(holders: &mut Vec<u32>, inodes: &[Inode], level: usize) -> Result<(), AllocError>
     requires lowest { 1 ≤ level }
     requires highest { level ≤ POINTER_LEVELS }
 {
     for inode in inodes {
-        if numbers.len() > part.count() as usize {
-            break;
-        }
-        for i in 0..inode.number_end(level) {
-            let s = number_of(part, log, inode, level, i);
-            if s != 0 {
-                want_numbers(numbers, recovered(part, log, s), inode, level - 1)?;
-            }
-        }
+        want(holders, inode.indirect[level - 1])?;
     }
-    numbers.sort()?;
-    Ok(())
+    sort_without_repeats(holders)
 }
 
-// The numbers of a level that stand in a sector of pointers with this content.
-fn want_numbers(
+// The sectors that these sectors of pointers list. There are no more of them than sectors, unless one is listed twice.
+fn want_listed<F: DiskFile + Drop>(
     numbers: &mut Vec<u32>,
-    content: &[u8; 512],
-    inode: &Inode,
-    level: usize,
+    part: &PartFile<F>,
+    log: &Log,
+    holders: &[u32],
 ) -> Result<(), AllocError> {
-    let own = own_count(level);
-    for i in own..own + SECTOR_POINTERS {
-        want(numbers, inode.number(level, content, i))?;
+    for s in holders {
+        want_numbers(numbers, recovered(part, log, *s), part.count())?;
+        if numbers.len() / 2 > part.count() as usize {
+            sort_without_repeats(numbers)?;
+        }
+    }
+    sort_without_repeats(numbers)
+}
+
+// The numbers of sectors of the file that stand in a sector of pointers with this content.
+fn want_numbers(numbers: &mut Vec<u32>, content: &[u8; 512], count: u32) -> Result<(), AllocError> {
+    for i in 0..SECTOR_POINTERS as usize {
+        let s = number_at(content, i);
+        if s < count {
+            want(numbers, s)?;
+        }
     }
     Ok(())
 }

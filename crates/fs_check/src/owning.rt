@@ -1,8 +1,8 @@
 //! The numbers of the sectors that an inode owns.
 
-ghost use Rattle.std.specs.Prelude.{◌≡◌, ◌≢◌, ◌⊎◌, ◌≤◌, ◌<◌, ◌-◌, ℕ, [], get_or, OnOk, IfOk, IsTrue, ◌↔◌};
-ghost use Rattle.fs_layout.specs.declared.inode.TheConstants.{POINTER_LEVELS};
-ghost use Rattle.fs_layout.specs.Bytes.{SectorMap};
+ghost use Rattle.std.specs.Prelude.{◌≡◌, ◌≢◌, ◌⊎◌, ◌≤◌, ◌<◌, ◌-◌, ◌*◌, ℕ, [], get_or, OnOk, IfOk, IsTrue, ◌↔◌};
+ghost use Rattle.fs_layout.specs.declared.inode.TheConstants.{POINTER_LEVELS, SECTOR_POINTERS};
+ghost use Rattle.fs_layout.specs.Bytes.{SectorMap, u32_of};
 ghost use Rattle.fs_layout.specs.Images.{IsData, number_on};
 ghost use Rattle.fs_check.specs.Owning.{AreAtHand, HasLevelInData, HasAboveInData};
 ghost use Rattle.fs_check.specs.Checks.{meaning, BeginsWith, Passed, IsNone};
@@ -10,6 +10,7 @@ ghost use Rattle.fs_check.specs.Checks.{meaning, BeginsWith, Passed, IsNone};
 use crate::faults::Checked;
 use crate::opening::Opened;
 use crate::reading::read_recovered;
+use byteorder::{ByteOrder, LittleEndian};
 use fs_layout::{Geometry, Inode, POINTER_LEVELS, SECTOR_POINTERS, own_count};
 use sector_disk::Disk;
 
@@ -20,6 +21,14 @@ pub(crate) struct Pointers {
     sectors: [u32; POINTER_LEVELS],
     /// What stands in them, that of the first level first.
     pub contents: [[u8; 512]; POINTER_LEVELS],
+}
+
+/// Number `i` of those that stand in a sector of pointers.
+pub(crate) fn number_at(content: &[u8; 512], i: usize) -> u32
+    requires { i < SECTOR_POINTERS }
+    ensures { result ≡ u32_of content.now (4 * i) }
+{
+    LittleEndian::read_u32(&content[4 * i..])
 }
 
 /// The sector is in the data area.

@@ -1,13 +1,15 @@
-use Rattle.std.proofs.Common.{◌+◌, get_or, arith, refl, subst, inl, inr}
+use Rattle.std.proofs.Common.{get_or, arith, refl, subst, inl, inr}
 use Rattle.std.proofs.lemmas.Bool.{cases_lt}
 use Rattle.fs_layout.specs.Images.{Owns}
+use Rattle.fs_layout.specs.Bytes.{SectorMap}
 use Rattle.fs_model.specs.Rules.{IsInData}
 use Rattle.sector_disk.proofs.Moments.{reads_joined, reads_nothing}
 use Rattle.fs_check.specs.Checks.{meaning}
+use Rattle.fs_check.specs.Counts.{times_owned, AddsOwners}
 use Rattle.fs_check.specs.Owning.{OwnsData}
-use Rattle.fs_check.proofs.Carrying.{hand_back, hand_still, opened_still, read_error}
+use Rattle.fs_check.proofs.Carrying.{meaning_same, marks_still, opened_still, read_error}
+use Rattle.fs_check.proofs.Counts.{first_inode, next_inode, all_inodes}
 use Rattle.fs_check.proofs.FreeInodes.{free_owns_nothing}
-use Rattle.fs_check.proofs.MarkedParts.{step_marked, all_marked}
 use Rattle.fs_check.proofs.Tables.{more_good}
 use Rattle.fs_check.proofs.Tests.{within, few_inodes, inode_here, free_behind, known_of, refuses, blank}
 use Rattle.fs_check.proofs.marking.mark_all.Goals as goal
@@ -35,8 +37,7 @@ pub loop-ino-init : goal.loop-ino-init
 loop-ino-init g c = record {
   reads = reads_nothing;
   good = λ k lt. absurd (omega (arith, lt));
-  at_hand = c.new-pointers.ensures (meaning (g.D.Disk.state c.args.disk.now));
-  marked = c.requires.none;
+  marked = first_inode c.args.opened.now.geometry (meaning (g.D.Disk.state c.args.disk.now)) c.args.marks.now c.requires.none;
 }
 
 pub loop-ino-preserved : goal.loop-ino-preserved
@@ -47,15 +48,14 @@ loop-ino-preserved g c =
     let p = c.args.opened.now.geometry in
     let n = c.loop-ino.ino in
     let reads = c.loop-ino.invariant.reads in
-    let here = inode_here p (meaning s0) c.args.inodes.now n blank c.requires.table lt in
+    let v = get_or c.args.inodes.now n blank in
     record {
       reads = reads_joined reads c.in_ok-mark_inode.ensures.passed.reads;
       good = more_good (IsInData p (meaning s0)) n c.loop-ino.invariant.good
           (known_of (OwnsData p) s0 s1 p c.args.inodes.now n blank reads c.requires.table lt (c.in_ok-mark_inode.ensures.test.0 c.if-not-branch.false));
-      at_hand = hand_back reads c.mark_inode.new.pointers c.in_ok-mark_inode.ensures.at_hand;
-      marked =
-          step_marked p s0 s1 (get_or c.args.inodes.now n blank) n 0 (n + 1) 0 c.loop-ino.owned c.loop-ino.twice c.mark_inode.new.owned c.mark_inode.new.twice reads here
-          (c.in_ok-mark_inode.ensures.marked c.if-not-branch.false n) c.loop-ino.invariant.marked;
+      marked = next_inode p (meaning s0) n v c.loop-ino.marks c.mark_inode.new.marks (inode_here p (meaning s0) c.args.inodes.now n blank c.requires.table lt)
+          (subst (λ (m : SectorMap). AddsOwners p m (times_owned m v) c.loop-ino.marks c.mark_inode.new.marks) (meaning_same reads)
+          (c.in_ok-mark_inode.ensures.marked c.if-not-branch.false)) c.loop-ino.invariant.marked;
     }
 
 pub returns-clause-each : goal.returns-clause-each
@@ -74,7 +74,7 @@ pub returns-clause-marked : goal.returns-clause-marked
 returns-clause-marked g c =
     let len = c.requires.table.len in
     let end = c.loop-ino.auto.ino-end in
-    all_marked c.args.opened.now.geometry (meaning (g.D.Disk.state c.args.disk.now)) c.args.inodes.now c.loop-ino.ino c.loop-ino.owned c.loop-ino.twice c.requires.table
+    all_inodes c.args.opened.now.geometry (meaning (g.D.Disk.state c.args.disk.now)) c.args.inodes.now c.loop-ino.ino c.loop-ino.marks c.requires.table
     c.loop-ino-test.false (omega (arith, end, len)) c.loop-ino.invariant.marked
 
 pub overflow_cast-ino-end : goal.overflow_cast-ino-end
@@ -85,12 +85,7 @@ overflow_cast-ino-end g c =
 pub mark_inode-requires : goal.mark_inode-requires
 mark_inode-requires g c =
     let so_far = c.loop-ino.invariant in
-    record {
-      opened = opened_still so_far.reads c.requires.opened;
-      at_hand = hand_still so_far.reads c.loop-ino.pointers so_far.at_hand;
-      owned = so_far.marked.owned_len;
-      twice = so_far.marked.twice_len;
-    }
+    record { opened = opened_still so_far.reads c.requires.opened; marks = marks_still so_far.reads c.args.opened.now.geometry _ c.loop-ino.marks so_far.marked }
 
 pub returns-in_err-mark_inode-clause-passed : goal.returns-in_err-mark_inode-clause-passed
 returns-in_err-mark_inode-clause-passed g c = read_error c.loop-ino.invariant.reads c.from_residual.result c.from_residual.ensures.1 c.in_err-mark_inode.ensures.passed
