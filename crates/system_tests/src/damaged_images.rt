@@ -1,6 +1,6 @@
 //! An image of version 2 whose one file has the largest size and no hole, so that both levels of sectors of pointers are full, and one of
 //! version 3 whose one file has a block that is found by all three: what a check finds where bytes of them are changed, or where they are
-//! cut; and that a mount agrees.
+//! cut, or share sectors; and that a mount agrees.
 
 ghost use Rattle.std.specs.Prelude.{◌+◌, ◌^◌, ◌≤◌};
 
@@ -302,6 +302,78 @@ static THIRD_NUMBERS: [(&[Change], Wanted); 11] = [
     (&[(533, 508, b"\0\x08\0\0")], Err((5, 2))),
 ];
 
+// Inode 3 as inode 2 of this image is, but for the number of its triple indirect sector, with its bit.
+const MORE_FILE: Change = (
+    514,
+    384,
+    b"\x01\0\xa4\x01\0\0\0\0\0\0\0\0\x01\0\0\0\x01\x18\x81\0",
+);
+
+const MORE_INODES: Change = (512, 0, b"\x0f");
+
+// What inodes share, or a sector of pointers has of itself. Inode 3 has the number of its double indirect sector at 472 of sector 514, and
+// that of its triple indirect one at 476.
+static THIRD_TWICE: [(&[Change], Wanted); 7] = [
+    // A sector of pointers that names itself: it is of each level, and what it named before isn't owned.
+    (&[(531, 0, b"\x13\x02\0\0\x13\x02\0\0")], Err((6, 531))),
+    // Two inodes have one triple indirect sector: what is found by it is owned twice too.
+    (
+        &[MORE_FILE, MORE_INODES, (514, 476, b"\x13\x02\0\0")],
+        Err((6, 531)),
+    ),
+    // The same, from sector 534 down to block 531: the least of them is found last.
+    (
+        &[
+            MORE_FILE,
+            MORE_INODES,
+            (514, 348, b"\x16\x02\0\0"),
+            (514, 476, b"\x16\x02\0\0"),
+            (534, 0, b"\x15\x02\0\0"),
+            (533, 0, b"\x14\x02\0\0"),
+            (532, 0, b"\x13\x02\0\0"),
+        ],
+        Err((6, 531)),
+    ),
+    // The same, but inode 3 has only the sector of pointers of the second level, sector 533.
+    (
+        &[
+            MORE_FILE,
+            MORE_INODES,
+            (514, 348, b"\x16\x02\0\0"),
+            (514, 472, b"\x15\x02\0\0"),
+            (534, 0, b"\x15\x02\0\0"),
+            (533, 0, b"\x14\x02\0\0"),
+            (532, 0, b"\x13\x02\0\0"),
+        ],
+        Err((6, 531)),
+    ),
+    // A number found by the shared sector is outside the data area: of the first inode. One that only inode 3 finds, as it has the sector
+    // on another level: of inode 3, where block 534 is a sector of pointers and begins with number 99.
+    (
+        &[
+            MORE_FILE,
+            MORE_INODES,
+            (514, 476, b"\x13\x02\0\0"),
+            (533, 508, b"\0\x08\0\0"),
+        ],
+        Err((5, 2)),
+    ),
+    (
+        &[MORE_FILE, MORE_INODES, (514, 472, b"\x15\x02\0\0")],
+        Err((5, 3)),
+    ),
+    // A sector of pointers to holes alone, of two inodes.
+    (
+        &[
+            MORE_FILE,
+            MORE_INODES,
+            (514, 476, b"\x13\x02\0\0"),
+            (531, 0, &[0; 512]),
+        ],
+        Err((6, 531)),
+    ),
+];
+
 // Rules 6 and 7.
 static THIRD_SHARED: [(&[Change], Wanted); 9] = [
     // Rule 6: a sector of pointers of the third level on the second too, one of the first twice, or on two ways, and one that is a block.
@@ -397,6 +469,7 @@ fn a_check_finds_damage_on_both_levels(rt: HostRuntime) -> Result<(), AllocError
 fn a_check_finds_damage_on_three_levels(rt: HostRuntime) -> Result<(), AllocError> {
     for rows in [
         THIRD_NUMBERS.as_slice(),
+        THIRD_TWICE.as_slice(),
         THIRD_SHARED.as_slice(),
         THIRD_ENDS.as_slice(),
     ] {
@@ -405,5 +478,38 @@ fn a_check_finds_damage_on_three_levels(rt: HostRuntime) -> Result<(), AllocErro
             assert!(rt; seen == wanted_of(wanted), "{i}: {seen:?}");
         }
     }
+    Ok(())
+}
+
+// All inodes but the root are the file, whose triple indirect sector names itself 128 times.
+fn write_one_for_all(image: &mut [[u8; 512]]) {
+    write_image(image, Version::Three);
+    change(image, 512, 0, &[0xff; 8]);
+    for ino in 2..64 {
+        let (s, at) = (514 + ino / 4, 128 * (ino % 4));
+        change(
+            image,
+            s,
+            at,
+            b"\x01\0\xa4\x01\0\0\0\0\0\0\0\0\x01\0\0\0\x01\x18\x81\0",
+        );
+        change(image, s, at + 92, b"\x13\x02\0\0");
+    }
+    for k in 0..128 {
+        change(image, 531, 4 * k, b"\x13\x02\0\0");
+    }
+}
+
+fn seen_of_one_for_all(alloc: Global) -> Result<Seen, AllocError> {
+    let mut image = Vec::new(alloc);
+    image.resize(THIRD_SECTORS as usize, [0; 512])?;
+    write_one_for_all(&mut image);
+    Ok(checked_and_mounted(alloc, MemDisk::from_sectors(alloc, image)?))
+}
+
+#[test]
+fn a_check_ends_where_a_sector_names_itself(rt: HostRuntime) -> Result<(), AllocError> {
+    let seen = seen_of_one_for_all(rt.alloc())?;
+    assert!(rt; seen == wanted_of(Err((6, 531))), "{seen:?}");
     Ok(())
 }
