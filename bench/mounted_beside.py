@@ -56,13 +56,19 @@ def calls_for(seconds, folder, round_):
     return at_share(looks), at_share(writes), n
 
 
+def make_and_remove(path):
+    """Changes a directory twice, if there is space."""
+    with contextlib.suppress(OSError):
+        path.touch()
+        path.unlink()
+
+
 def list_all(folder, end):
     """Keeps a directory open as often as a user may, and lists it by each, behind a change of it."""
     places = [os.open(folder, os.O_DIRECTORY) for _ in range(OPENINGS - 8)]
     while time.monotonic() < end:
         for place in places:
-            (folder / 'change').touch()
-            (folder / 'change').unlink()
+            make_and_remove(folder / 'change')
             os.lseek(place, 0, os.SEEK_SET)
             os.listdir(place)
 
@@ -73,7 +79,8 @@ def fill(folder, end):
         with open(folder / 'large', 'wb', buffering=0) as large, contextlib.suppress(OSError):
             for _ in range(NO_SPACE_YET // MEBIBYTE):
                 large.write(bytes(MEBIBYTE))
-        (folder / 'large').unlink()
+        with contextlib.suppress(OSError):
+            (folder / 'large').unlink()
 
 
 def flood(folder, end):
@@ -81,8 +88,7 @@ def flood(folder, end):
     n = 0
     while time.monotonic() < end:
         look_for(folder / f'none-{os.getpid()}-{n}')
-        (folder / f'{os.getpid()}').touch()
-        (folder / f'{os.getpid()}').unlink()
+        make_and_remove(folder / f'{os.getpid()}')
         n += 1
 
 
@@ -97,8 +103,8 @@ def beside(mounted):
     mounted.begin()
     crowded, own = work_dir(mounted, 'crowded', user=1000), work_dir(mounted, 'own', user=1001)
     os.chown(own, 1001, 101)
-    maker = Worker('ann', lambda: link_all(crowded, picked_names() + other_names()))
-    maker.ask()
+    maker = Worker('ann', link_all)
+    maker.ask(crowded, picked_names() + other_names())
     victim = Worker('bob', calls_for)
     alone = victim.ask(ALONE, own, 'alone')
     attackers = [Worker('ann', attack) for _ in range(4)]
