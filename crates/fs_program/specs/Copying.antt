@@ -27,7 +27,7 @@ use Rattle.host_trees.specs.Copies.{Asked, ArePacking, AreUnpacking, Copies}
 use Rattle.host_trees.specs.declared.fault.Copied.{Copied}
 use Rattle.host_trees.specs.declared.fault.Copied.TheVariants.{Whole, InPart}
 use Rattle.host_trees.specs.declared.fault.CopyFault.{CopyFault}
-use Rattle.host_trees.specs.declared.fault.CopyFault.TheVariants.{NoDirectory}
+use Rattle.host_trees.specs.declared.fault.CopyFault.TheVariants.{NoDirectory, NoProc}
 use Rattle.fs_fuse.specs.Performing.{ServesOne}
 use Rattle.fs_program.specs.declared.failure.Failure.{Failure}
 use Rattle.fs_program.specs.Unmounts.{unmount_end}
@@ -97,6 +97,7 @@ pub data UnpackEnds {D : Type 0} (state : D → DiskState) (old : D) (result : R
 pub data ImagePackEnds {D : Type 0} (state : D → DiskState) (sectors inodes : ℕ) (result : Result Status Failure) : Type 0 where
   has_no_geometry : the_geometry Three sectors inodes ≡ None → result ≡ Err (failures.Mkfs TooSmall) → ImagePackEnds state sectors inodes result
   has_no_directory : result ≡ Err (failures.Pack NoDirectory) → ImagePackEnds state sectors inodes result
+  has_no_proc : result ≡ Err (failures.Pack NoProc) → ImagePackEnds state sectors inodes result
   is_there : result ≡ Err failures.Exists → ImagePackEnds state sectors inodes result
   cannot_create : result ≡ Err failures.NotCreated → ImagePackEnds state sectors inodes result
   packs : (disk : D) (geometry : Geometry) → the_geometry Three sectors inodes ≡ Some geometry → (state disk).size ≡ sectors

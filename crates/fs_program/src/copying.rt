@@ -19,6 +19,7 @@ use host_trees::{Copied, CopyFault, FileSystem, Given, pack, unpack};
 use sector_disk::Disk;
 use std::io::Write;
 use std::marker::Model;
+use std::os::fd::AsRawFd;
 use std::rt::Files;
 
 /// A file system on a disk, as trees are copied to it and from it. Before each event the disk lets go of its past. Contracts see
@@ -64,7 +65,7 @@ impl<D: Disk + Drop> FileSystem for Copying<D> {
 }
 
 /// Makes a file system on a disk that has the size of the layout, copies a tree of the host to it, and unmounts it.
-pub(crate) fn pack_on_disk<R: Files + AllocGlobal, D: Disk + Drop, E: Write>(
+pub(crate) fn pack_on_disk<R: Files<File: AsRawFd> + AllocGlobal, D: Disk + Drop, E: Write>(
     rt: &R,
     disk: D,
     geometry: Geometry,
@@ -85,7 +86,7 @@ pub(crate) fn pack_on_disk<R: Files + AllocGlobal, D: Disk + Drop, E: Write>(
     }
 }
 
-fn pack_mounted<R: Files + AllocGlobal, D: Disk + Drop, E: Write>(
+fn pack_mounted<R: Files<File: AsRawFd> + AllocGlobal, D: Disk + Drop, E: Write>(
     rt: &R,
     fs: Fs<D>,
     from: &str,
@@ -109,7 +110,7 @@ fn packed_end(packed: Result<Copied, CopyFault>, errno: Option<Errno>) -> Result
 }
 
 /// Mounts a disk, copies the tree of its file system to the host, and unmounts it. The tree stays on the disk as it was mounted.
-pub(crate) fn unpack_on_disk<R: Files + AllocGlobal, D: Disk + Drop, E: Write>(
+pub(crate) fn unpack_on_disk<R: Files<File: AsRawFd> + AllocGlobal, D: Disk + Drop, E: Write>(
     rt: &R,
     disk: D,
     to: &str,
@@ -123,7 +124,7 @@ pub(crate) fn unpack_on_disk<R: Files + AllocGlobal, D: Disk + Drop, E: Write>(
     }
 }
 
-fn unpack_mounted<R: Files + AllocGlobal, D: Disk + Drop, E: Write>(
+fn unpack_mounted<R: Files<File: AsRawFd> + AllocGlobal, D: Disk + Drop, E: Write>(
     rt: &R,
     fs: Fs<D>,
     to: &str,

@@ -25,10 +25,11 @@ use fs_images::{MkfsFault, newest_layout, older_layout};
 use fs_layout::{Geometry, Version};
 use fs_shell::Watched;
 use fuse_serving::{Kernel, Processes, Standard};
-use host_trees::{CopyFault, Given};
+use host_trees::{CopyFault, Given, has_proc};
 use sector_disk::{Disk, DiskFile, FileDisk, FileFault, MemDisk, PartDisk, PartFile};
 use std::fs::{self, OpenFile, OpenOptions, Permissions};
 use std::io::{self, ErrorKind, Read, Write};
+use std::os::fd::AsRawFd;
 use std::os::unix::fs::{MetadataExt, OpenOptionsExt, PermissionsExt};
 use std::random::RandomSource;
 use std::rt::{Clock, Files};
@@ -41,7 +42,7 @@ const PRIVATE_FILE: u32 = 0o600;
 /// A script on the standard input is read from `input`, and replies are written to `out`: whether a call of them fails is
 /// remembered. A text that can't be written is passed over, with status 3. Who asks on a mount is known by `processes`.
 pub fn perform<
-    R: Files<File: DiskFile> + AllocGlobal + Clock + RandomSource,
+    R: Files<File: DiskFile + AsRawFd> + AllocGlobal + Clock + RandomSource,
     P: Processes + Drop,
     I: Read,
     O: Write,
@@ -80,7 +81,7 @@ fn refuse<O: Write, E: Write>(fault: &WordsFault, out: &mut Watched<O>, err: &mu
 }
 
 fn perform_job<
-    R: Files<File: DiskFile> + AllocGlobal + Clock + RandomSource,
+    R: Files<File: DiskFile + AsRawFd> + AllocGlobal + Clock + RandomSource,
     P: Processes + Drop,
     I: Read,
     O: Write,
@@ -162,8 +163,8 @@ fn make_image<R: Files<File: DiskFile> + AllocGlobal, O: Write>(
     }
 }
 
-// Makes an image of this layout with the tree of a directory. Where that is none no file is made.
-fn pack_image<R: Files<File: DiskFile> + AllocGlobal, E: Write>(
+// Makes an image of this layout with the tree of a directory. Where that is none, or can't be reached safely, no file is made.
+fn pack_image<R: Files<File: DiskFile + AsRawFd> + AllocGlobal, E: Write>(
     rt: &R,
     image: &Text,
     from: &Text,
@@ -180,6 +181,9 @@ fn pack_image<R: Files<File: DiskFile> + AllocGlobal, E: Write>(
     };
     if !is_directory(rt, from.as_str()) {
         return Err(Failure::Pack(CopyFault::NoDirectory));
+    }
+    if !has_proc(rt) {
+        return Err(Failure::Pack(CopyFault::NoProc));
     }
     match create_image(rt, image, geometry.sectors) {
         Ok(disk) => pack_on_disk(rt, disk, geometry, from.as_str(), given, err),
@@ -211,7 +215,7 @@ fn create_image<R: Files<File: DiskFile> + AllocGlobal>(
 }
 
 // Copies the tree of an image to a new directory.
-fn unpack_image<R: Files<File: DiskFile> + AllocGlobal, E: Write>(
+fn unpack_image<R: Files<File: DiskFile + AsRawFd> + AllocGlobal, E: Write>(
     rt: &R,
     image: &Text,
     to: &Text,

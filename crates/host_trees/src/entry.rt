@@ -1,4 +1,5 @@
 //! What an object of the host has.
+use crate::held::Identity;
 use crate::lack::Lack;
 use crate::owner::{Given, Owner};
 use crate::times::{Times, times_of};
@@ -14,9 +15,10 @@ const ALL_BITS: u32 = 0o7777;
 
 const SET_GROUP_ID: u16 = 0o2000;
 
-/// What an object of the host is to have in the file system.
+/// What was seen of an object of the host: which one it is, and what it is to have in the file system.
 #[derive(Clone, Copy)]
 pub(crate) struct Entry {
+    pub(crate) identity: Identity,
     pub(crate) owner: Owner,
     pub(crate) times: Option<Times>,
     bits: u32,
@@ -30,6 +32,7 @@ impl Entry {
             group: given.group.unwrap_or(metadata.gid()),
         };
         Entry {
+            identity: Identity::of(metadata),
             owner,
             times: times_of(metadata),
             bits: metadata.mode() & ALL_BITS,

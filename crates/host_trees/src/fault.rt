@@ -20,6 +20,12 @@ pub enum CopyFault {
     /// The directory of the host can't be read, or can't be made.
     #[error("NoDirectory")]
     NoDirectory,
+    /// The host has no `/proc/self/fd`, through which the tree is reached.
+    #[error("NoProc")]
+    NoProc,
+    /// Another object took the name of the directory that was made.
+    #[error("Changed")]
+    Changed,
     /// What was copied may not last.
     #[error("NotSynced")]
     NotSynced,

@@ -17,6 +17,8 @@ pub(crate) enum Lack {
     Times,
     /// An access list, which the host's modes can't say.
     List,
+    /// Another object took the name of one that was seen.
+    Changed,
     /// The host refuses.
     Host(ErrorKind),
     /// The file system refuses.
@@ -76,6 +78,7 @@ impl Lack {
             Lack::Bits => "set-id or sticky bits",
             Lack::Times => "times before 1970 or after 2554",
             Lack::List => "an access list",
+            Lack::Changed => "changed meanwhile",
             Lack::Host(_) => "host",
             Lack::Refused(errno) => errno.name(),
             Lack::Short => "cut short",

@@ -8,12 +8,12 @@ use crate::lack::Lack;
 use crate::place::Place;
 use crate::replies::status_in;
 use crate::times::Times;
-use crate::work::{Made, Pending, Work, hand_for, path_of};
+use crate::work::{Made, Object, Work, hand_for, path_of};
 use crate::writing::write_contents;
 use fs_layout::ROOT;
 use fs_model::{Call, Event, Path};
 use std::alloc::Global;
-use std::fs;
+use std::fs::{self, OpenFile};
 use std::io::Read;
 use std::rt::Files;
 
@@ -21,7 +21,7 @@ use std::rt::Files;
 pub(crate) fn pack_directory<M: FileSystem>(
     asker: &mut Asker<M>,
     work: &mut Work,
-    object: &Pending,
+    object: &Object<'_>,
     entry: Entry,
 ) -> Result<(), Lack>
     ensures { Asks M.Serves IsMaking asker.old.machine asker.new.machine asker.old.is_whole asker.new.is_whole }
@@ -39,16 +39,23 @@ pub(crate) fn pack_file<R: Files, M: FileSystem>(
     rt: &R,
     asker: &mut Asker<M>,
     work: &mut Work,
-    object: &Pending,
+    object: &Object<'_>,
     entry: Entry,
 ) -> Result<(), Lack>
     ensures { Asks M.Serves IsMaking asker.old.machine asker.new.machine asker.old.is_whole asker.new.is_whole }
 {
-    let mut file = fs::open(rt, object.host.as_str())?;
+    let mut file = open_file(rt, object, entry)?;
     let pid = hand_for(asker, work, entry.owner)?;
     let place = place_of(work, pid, object);
     let fd = place.create(asker, entry.file_mode())?;
     fill_file(asker, work, pid, fd, &mut file, entry)
+}
+
+// Opens a file of the host that was seen.
+fn open_file<R: Files>(rt: &R, object: &Object<'_>, entry: Entry) -> Result<R::File, Lack> {
+    let file = fs::open(rt, object.reached.as_str())?;
+    entry.identity.check(&file.metadata()?)?;
+    Ok(file)
 }
 
 // Gives an open file its bytes and its times, and closes it.
@@ -73,12 +80,12 @@ pub(crate) fn pack_link<R: Files + AllocGlobal, M: FileSystem>(
     rt: &R,
     asker: &mut Asker<M>,
     work: &mut Work,
-    object: &Pending,
+    object: &Object<'_>,
     entry: Entry,
 ) -> Result<(), Lack>
     ensures { Asks M.Serves IsMaking asker.old.machine asker.new.machine asker.old.is_whole asker.new.is_whole }
 {
-    let target = target_of(rt, work.alloc, object)?;
+    let target = target_of(rt, work.alloc, object, entry)?;
     let pid = hand_for(asker, work, entry.owner)?;
     let place = place_of(work, pid, object);
     let path = place.path()?;
@@ -86,14 +93,17 @@ pub(crate) fn pack_link<R: Files + AllocGlobal, M: FileSystem>(
     stamp_at(asker, place, entry.times)
 }
 
-// Where a symbolic link of the host leads.
+// Where a symbolic link of the host leads, if it is still the one that was seen.
 fn target_of<R: Files + AllocGlobal>(
     rt: &R,
     alloc: Global,
-    object: &Pending,
+    object: &Object<'_>,
+    entry: Entry,
 ) -> Result<Path, Lack> {
-    let leads = fs::read_link(rt, object.host.as_str())?;
-    Ok(path_of(alloc, leads.as_str())?)
+    let reached = object.reached.as_str();
+    let leads = fs::read_link(rt, reached);
+    entry.identity.check(&fs::symlink_metadata(rt, reached)?)?;
+    Ok(path_of(alloc, leads?.as_str())?)
 }
 
 /// Gives an object that was copied before another name.
@@ -101,7 +111,7 @@ pub(crate) fn pack_other_name<M: FileSystem>(
     asker: &mut Asker<M>,
     work: &mut Work,
     first: Path,
-    object: &Pending,
+    object: &Object<'_>,
     entry: Entry,
 ) -> Result<(), Lack>
     ensures { Asks M.Serves IsMaking asker.old.machine asker.new.machine asker.old.is_whole asker.new.is_whole }
@@ -114,7 +124,7 @@ pub(crate) fn pack_other_name<M: FileSystem>(
 }
 
 // Where an object stands in the file system, for the process that makes it.
-fn place_of<'a>(work: &Work, pid: usize, object: &'a Pending) -> Place<'a> {
+fn place_of<'a>(work: &Work, pid: usize, object: &'a Object<'_>) -> Place<'a> {
     Place {
         alloc: work.alloc,
         pid,

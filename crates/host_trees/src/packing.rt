@@ -11,11 +11,13 @@ use crate::file_system::FileSystem;
 use crate::lack::Lack;
 use crate::objects::{finish_directory, pack_directory, pack_file, pack_link, pack_other_name};
 use crate::owner::Given;
-use crate::work::{Pending, Work, below};
+use crate::trail::{Trail, begin};
+use crate::work::{Directory, Object, Pending, Work, below};
 use fs_model::{Event, Reply};
 use std::alloc::Global;
 use std::fs::{self, DirEntry, Metadata};
 use std::io::{self, Write};
+use std::os::fd::AsRawFd;
 use std::rt::Files;
 
 /// Copies the tree below a directory of the host to a file system that is empty, its root among it, and makes it stable. All gets
@@ -25,7 +27,10 @@ use std::rt::Files;
 ///
 /// What can't be copied is named, and left out; what a file system can't keep of an object is named, and the object is there
 /// without it. Nothing is named of a tree that is copied whole.
-pub fn pack<R: Files + AllocGlobal, M: FileSystem, E: Write>(
+///
+/// Each directory is opened once it was seen, and what lies in it is reached through it alone. What another object took the name of
+/// meanwhile is named, and left out: so all that is copied lies below the directory that was named.
+pub fn pack<R: Files<File: AsRawFd> + AllocGlobal, M: FileSystem, E: Write>(
     rt: &R,
     machine: M,
     from: &str,
@@ -35,37 +40,51 @@ pub fn pack<R: Files + AllocGlobal, M: FileSystem, E: Write>(
     ensures copies { Copies M.Serves machine result.1 (λ asked. ArePacking asked result.0) }
     ensures silent { IsTrue (is_copied_whole result.0) → err.new ≡ err.old }
 {
-    match Work::new(rt, from, given) {
-        Ok(work) => pack_all(rt, machine, work, err),
+    match begin_at(rt, from, given) {
+        Ok((work, trail)) => pack_all(rt, machine, work, trail, err),
         Err(fault) => (Err(fault), machine),
     }
 }
 
-fn pack_all<R: Files + AllocGlobal, M: FileSystem, E: Write>(
+// What is to be done of the tree below a directory, and the walk through it.
+fn begin_at<R: Files<File: AsRawFd> + AllocGlobal>(
+    rt: &R,
+    from: &str,
+    given: Given,
+) -> Result<(Work, Trail<R::File>), CopyFault> {
+    let alloc = rt.alloc();
+    let trail = begin(rt, alloc, from)?;
+    let work = Work::new(alloc, from, &trail.metadata()?, given)?;
+    Ok((work, trail))
+}
+
+fn pack_all<R: Files<File: AsRawFd> + AllocGlobal, M: FileSystem, E: Write>(
     rt: &R,
     machine: M,
     work: Work,
+    trail: Trail<R::File>,
     err: &mut E,
 ) -> (Result<Copied, CopyFault>, M)
     ensures copies { Copies M.Serves machine result.1 (λ asked. ArePacking asked result.0) }
     ensures silent { IsTrue (is_copied_whole result.0) → err.new ≡ err.old }
 {
-    let mut work = work;
+    let (mut work, mut trail) = (work, trail);
     let mut asker = Asker::new(machine);
-    let packed = pack_tree(rt, &mut asker, &mut work, err);
+    let packed = pack_tree(rt, &mut asker, &mut work, &mut trail, err);
     (packed, asker.into_machine())
 }
 
-fn pack_tree<R: Files + AllocGlobal, M: FileSystem, E: Write>(
+fn pack_tree<R: Files<File: AsRawFd> + AllocGlobal, M: FileSystem, E: Write>(
     rt: &R,
     asker: &mut Asker<M>,
     work: &mut Work,
+    trail: &mut Trail<R::File>,
     err: &mut E,
 ) -> Result<Copied, CopyFault>
     ensures copies { Copies M.Serves asker.old.machine asker.new.machine (λ asked. ArePacking asked result) }
     ensures silent { IsTrue (is_copied_whole result) → err.new ≡ err.old }
 {
-    pack_directories(rt, asker, work, err);
+    pack_directories(rt, asker, work, trail, err);
     finish_directories(asker, work, err);
     let copied = asker.copied();
     match sync(asker) {
@@ -93,10 +112,11 @@ fn sync<M: FileSystem>(asker: &mut Asker<M>) -> Result<(), CopyFault>
 // ---- the walk
 
 // Copies the names of all directories that are still to be copied.
-fn pack_directories<R: Files + AllocGlobal, M: FileSystem, E: Write>(
+fn pack_directories<R: Files<File: AsRawFd> + AllocGlobal, M: FileSystem, E: Write>(
     rt: &R,
     asker: &mut Asker<M>,
     work: &mut Work,
+    trail: &mut Trail<R::File>,
     err: &mut E,
 )
     ensures { AsksTelling M.Serves IsMaking asker.old.machine asker.new.machine asker.old.is_whole asker.new.is_whole err.old err.new }
@@ -106,16 +126,41 @@ fn pack_directories<R: Files + AllocGlobal, M: FileSystem, E: Write>(
         let Some(directory) = work.pending.pop() else {
             return;
         };
-        pack_below(rt, asker, work, &directory, err);
+        pack_below(rt, asker, work, trail, directory, err);
+    }
+}
+
+// Enters a directory, and copies its names.
+fn pack_below<R: Files<File: AsRawFd> + AllocGlobal, M: FileSystem, E: Write>(
+    rt: &R,
+    asker: &mut Asker<M>,
+    work: &mut Work,
+    trail: &mut Trail<R::File>,
+    directory: Pending,
+    err: &mut E,
+)
+    ensures { AsksTelling M.Serves IsMaking asker.old.machine asker.new.machine asker.old.is_whole asker.new.is_whole err.old err.new }
+{
+    let Pending { host, inside, step } = directory;
+    match trail.enter(rt, work.alloc, step) {
+        Ok(entered) => {
+            let directory = Directory {
+                host,
+                inside,
+                entered,
+            };
+            pack_entered(rt, asker, work, &directory, err);
+        }
+        Err(lack) => name_lack(asker, err, host.as_str(), lack),
     }
 }
 
 // Copies the names of a directory.
-fn pack_below<R: Files + AllocGlobal, M: FileSystem, E: Write>(
+fn pack_entered<R: Files + AllocGlobal, M: FileSystem, E: Write>(
     rt: &R,
     asker: &mut Asker<M>,
     work: &mut Work,
-    directory: &Pending,
+    directory: &Directory,
     err: &mut E,
 )
     ensures { AsksTelling M.Serves IsMaking asker.old.machine asker.new.machine asker.old.is_whole asker.new.is_whole err.old err.new }
@@ -130,13 +175,13 @@ fn pack_below<R: Files + AllocGlobal, M: FileSystem, E: Write>(
 fn names_of<R: Files + AllocGlobal, M: FileSystem, E: Write>(
     rt: &R,
     asker: &mut Asker<M>,
-    directory: &Pending,
+    directory: &Directory,
     err: &mut E,
 ) -> Result<Vec<String>, Lack>
     ensures { AsksTelling M.Serves IsMaking asker.old.machine asker.new.machine asker.old.is_whole asker.new.is_whole err.old err.new }
 {
     let mut names = Vec::new(rt.alloc());
-    for entry in fs::read_dir(&rt, directory.host.as_str())? {
+    for entry in fs::read_dir(&rt, directory.entered.path.as_str())? {
         take_name(rt.alloc(), asker, &mut names, directory, entry, err)?;
     }
     names.sort()?;
@@ -148,7 +193,7 @@ fn take_name<R: Files + Drop, M: FileSystem, E: Write>(
     alloc: Global,
     asker: &mut Asker<M>,
     names: &mut Vec<String>,
-    directory: &Pending,
+    directory: &Directory,
     entry: io::Result<DirEntry<R, Global>>,
     err: &mut E,
 ) -> Result<(), Lack>
@@ -173,7 +218,7 @@ fn pack_names<R: Files + AllocGlobal, M: FileSystem, E: Write>(
     rt: &R,
     asker: &mut Asker<M>,
     work: &mut Work,
-    directory: &Pending,
+    directory: &Directory,
     names: &[String],
     err: &mut E,
 )
@@ -189,7 +234,7 @@ fn pack_name<R: Files + AllocGlobal, M: FileSystem, E: Write>(
     rt: &R,
     asker: &mut Asker<M>,
     work: &mut Work,
-    directory: &Pending,
+    directory: &Directory,
     name: &str,
     err: &mut E,
 )
@@ -205,7 +250,7 @@ fn pack_named<R: Files + AllocGlobal, M: FileSystem, E: Write>(
     rt: &R,
     asker: &mut Asker<M>,
     work: &mut Work,
-    object: &Pending,
+    object: &Object<'_>,
     err: &mut E,
 )
     ensures { AsksTelling M.Serves IsMaking asker.old.machine asker.new.machine asker.old.is_whole asker.new.is_whole err.old err.new }
@@ -219,11 +264,11 @@ fn pack_object<R: Files + AllocGlobal, M: FileSystem>(
     rt: &R,
     asker: &mut Asker<M>,
     work: &mut Work,
-    object: &Pending,
+    object: &Object<'_>,
 ) -> Result<(), Lack>
     ensures { Asks M.Serves IsMaking asker.old.machine asker.new.machine asker.old.is_whole asker.new.is_whole }
 {
-    let metadata = fs::symlink_metadata(rt, object.host.as_str())?;
+    let metadata = fs::symlink_metadata(rt, object.reached.as_str())?;
     let entry = Entry::of(&metadata, work.given);
     if metadata.is_dir() {
         pack_directory(asker, work, object, entry)?;
@@ -238,7 +283,7 @@ fn pack_nondirectory<R: Files + AllocGlobal, M: FileSystem>(
     rt: &R,
     asker: &mut Asker<M>,
     work: &mut Work,
-    object: &Pending,
+    object: &Object<'_>,
     metadata: &Metadata,
     entry: Entry,
 ) -> Result<(), Lack>
@@ -255,7 +300,7 @@ fn pack_new<R: Files + AllocGlobal, M: FileSystem>(
     rt: &R,
     asker: &mut Asker<M>,
     work: &mut Work,
-    object: &Pending,
+    object: &Object<'_>,
     metadata: &Metadata,
     entry: Entry,
 ) -> Result<(), Lack>

@@ -6,8 +6,10 @@ ghost use Rattle.host_trees.specs.Copies.{Asks, AreUnpacking, Copies, AsksTellin
 use crate::asker::{Asker, name_if_lacking, name_lack};
 use crate::fault::{Copied, CopyFault};
 use crate::file_system::FileSystem;
+use crate::held::path_through;
 use crate::lack::Lack;
 use crate::lists::{Grants, grants_of};
+use crate::new_directory::{make_and_hold, make_file, make_private};
 use crate::place::{Opened, Place};
 use crate::replies::{listing_in, pid_in, stamps_in, target_in};
 use crate::times::file_times;
@@ -16,27 +18,27 @@ use fs_cred::Cred;
 use fs_model::{Call, Event, FileType, Listing, Named, Path, Stamps, Status};
 use std::alloc::{AllocError, Global};
 use std::collections::BTreeMap;
-use std::fs::{self, DirBuilder, OpenFile, OpenOptions, Permissions};
+use std::fs::{self, OpenFile, Permissions};
 use std::io::{self, Write};
-use std::os::unix::fs::{DirBuilderExt, OpenOptionsExt, PermissionsExt, symlink};
+use std::mem;
+use std::os::fd::AsRawFd;
+use std::os::unix::fs::{PermissionsExt, symlink};
 use std::rt::Files;
 
-// Nobody else looks at what is still being copied.
-const PRIVATE_DIRECTORY: u32 = 0o700;
-
-const PRIVATE_FILE: u32 = 0o600;
-
-// An object that is still to be copied: its path in the file system, which is empty for the root, and on the host.
+// An object that is still to be copied: its path in the file system, which is empty for the root, and on the host, as it is told and
+// as it is reached.
 #[derive(Drop)]
 struct Pending {
     inside: Vec<u8>,
     host: String,
+    reached: String,
 }
 
-// A directory that was made on the host, and what it gets once its names are there.
+// A directory that was made on the host, by its paths there, and what it gets once its names are there.
 #[derive(Drop)]
 struct Made {
     host: String,
+    reached: String,
     ino: u32,
     grants: Grants,
 }
@@ -53,6 +55,23 @@ struct Work {
 }
 
 impl Work {
+    // Keeps in mind what is still to be done of a directory that was made on the host.
+    fn keep_directory(
+        &mut self,
+        object: Pending,
+        ino: u32,
+        grants: Grants,
+    ) -> Result<(), AllocError> {
+        self.made.push(Made {
+            host: String::from_str(self.alloc, object.host.as_str())?,
+            reached: String::from_str(self.alloc, object.reached.as_str())?,
+            ino,
+            grants,
+        })?;
+        self.pending.push(object)?;
+        Ok(())
+    }
+
     // A place in the file system, for the process that reads it.
     fn place<'a>(&self, inside: &'a [u8]) -> Place<'a> {
         Place {
@@ -68,7 +87,10 @@ impl Work {
 ///
 /// What can't be copied is named, and left out; what the host can't keep of an object is named, and the object is there without it.
 /// Where all was copied the host has each file in full, on its disk too.
-pub fn unpack<R: Files + AllocGlobal, M: FileSystem, E: Write>(
+///
+/// The directory is held open from the time it was made, and all else is made through it: nothing is made elsewhere, whatever becomes
+/// of its path.
+pub fn unpack<R: Files<File: AsRawFd> + AllocGlobal, M: FileSystem, E: Write>(
     rt: &R,
     machine: M,
     to: &str,
@@ -82,7 +104,7 @@ pub fn unpack<R: Files + AllocGlobal, M: FileSystem, E: Write>(
     (unpacked, asker.into_machine())
 }
 
-fn unpack_tree<R: Files + AllocGlobal, M: FileSystem, E: Write>(
+fn unpack_tree<R: Files<File: AsRawFd> + AllocGlobal, M: FileSystem, E: Write>(
     rt: &R,
     asker: &mut Asker<M>,
     to: &str,
@@ -97,7 +119,7 @@ fn unpack_tree<R: Files + AllocGlobal, M: FileSystem, E: Write>(
     }
 }
 
-fn unpack_all<R: Files + AllocGlobal, M: FileSystem, E: Write>(
+fn unpack_all<R: Files<File: AsRawFd> + AllocGlobal, M: FileSystem, E: Write>(
     rt: &R,
     asker: &mut Asker<M>,
     to: &str,
@@ -112,7 +134,7 @@ fn unpack_all<R: Files + AllocGlobal, M: FileSystem, E: Write>(
 }
 
 // Copies the tree by the calls of a process.
-fn unpack_by<R: Files + AllocGlobal, M: FileSystem, E: Write>(
+fn unpack_by<R: Files<File: AsRawFd> + AllocGlobal, M: FileSystem, E: Write>(
     rt: &R,
     asker: &mut Asker<M>,
     pid: usize,
@@ -130,11 +152,12 @@ fn unpack_by<R: Files + AllocGlobal, M: FileSystem, E: Write>(
         names: BTreeMap::new(alloc),
     };
     match unpack_root(rt, asker, &mut work, to) {
-        Ok(()) => {
+        Ok(top) => {
             unpack_rest(rt, asker, &mut work, err);
+            mem::drop(top);
             Ok(())
         }
-        Err(_) => Err(CopyFault::NoDirectory),
+        Err(fault) => Err(fault),
     }
 }
 
@@ -164,19 +187,36 @@ fn seen_at<M: FileSystem>(asker: &mut Asker<M>, place: Place<'_>) -> Result<(Sta
 
 // ---- the walk
 
-// Makes the directory for the root.
-fn unpack_root<R: Files, M: FileSystem>(
+// Makes the directory for the root, which is reached as long as it is open.
+fn unpack_root<R: Files<File: AsRawFd> + AllocGlobal, M: FileSystem>(
     rt: &R,
     asker: &mut Asker<M>,
     work: &mut Work,
     to: &str,
-) -> Result<(), Lack>
+) -> Result<R::File, CopyFault>
     ensures { Asks M.Serves IsReading asker.old.machine asker.new.machine asker.old.is_whole asker.new.is_whole }
 {
-    let (status, grants) = seen_at(asker, work.place(b"/"))?;
-    let host = String::from_str(work.alloc, to)?;
-    let inside = Vec::new(work.alloc);
-    make_directory(rt, work, Pending { inside, host }, status.ino, grants)
+    match seen_at(asker, work.place(b"/")) {
+        Ok((status, grants)) => make_top(rt, work, to, status.ino, grants),
+        Err(_) => Err(CopyFault::NoDirectory),
+    }
+}
+
+fn make_top<R: Files<File: AsRawFd> + AllocGlobal>(
+    rt: &R,
+    work: &mut Work,
+    to: &str,
+    ino: u32,
+    grants: Grants,
+) -> Result<R::File, CopyFault> {
+    let top = make_and_hold(rt, to)?;
+    let object = Pending {
+        inside: Vec::new(work.alloc),
+        host: String::from_str(work.alloc, to)?,
+        reached: path_through(work.alloc, &top)?,
+    };
+    work.keep_directory(object, ino, grants)?;
+    Ok(top)
 }
 
 // Copies all that is below the root, and finishes the directories.
@@ -200,12 +240,8 @@ fn make_directory<R: Files>(
     ino: u32,
     grants: Grants,
 ) -> Result<(), Lack> {
-    DirBuilder::new()
-        .mode(PRIVATE_DIRECTORY)
-        .create(rt, object.host.as_str())?;
-    let host = String::from_str(work.alloc, object.host.as_str())?;
-    work.made.push(Made { host, ino, grants })?;
-    work.pending.push(object)?;
+    make_private(rt, object.reached.as_str())?;
+    work.keep_directory(object, ino, grants)?;
     Ok(())
 }
 
@@ -299,12 +335,17 @@ fn below(alloc: Global, directory: &Pending, name: &[u8]) -> Result<Pending, Lac
     let Ok(text) = str::from_utf8(name) else {
         return Err(Lack::Name);
     };
-    let host = directory.host.as_str();
+    let (host, reached) = (directory.host.as_str(), directory.reached.as_str());
     let host = format!(in alloc; "{host}/{text}")?;
+    let reached = format!(in alloc; "{reached}/{text}")?;
     let mut inside = Vec::from_slice(alloc, &directory.inside)?;
     inside.push(b'/')?;
     inside.extend_from_slice(name)?;
-    Ok(Pending { inside, host })
+    Ok(Pending {
+        inside,
+        host,
+        reached,
+    })
 }
 
 // Copies an object to the host. At an error it isn't there, or not as a whole, or lacks what is named.
@@ -328,6 +369,7 @@ fn copy_of(alloc: Global, object: &Pending) -> Result<Pending, AllocError> {
     Ok(Pending {
         inside: Vec::from_slice(alloc, &object.inside)?,
         host: String::from_str(alloc, object.host.as_str())?,
+        reached: String::from_str(alloc, object.reached.as_str())?,
     })
 }
 
@@ -345,7 +387,7 @@ fn unpack_nondirectory<R: Files + AllocGlobal, M: FileSystem>(
     ensures { Asks M.Serves IsReading asker.old.machine asker.new.machine asker.old.is_whole asker.new.is_whole }
 {
     if let Some(first) = work.names.get(&status.ino) {
-        return Ok(fs::hard_link(rt, first.as_str(), object.host.as_str())?);
+        return Ok(fs::hard_link(rt, first.as_str(), object.reached.as_str())?);
     }
     unpack_new(rt, asker, work, object, status, grants)?;
     keep_name(work, object, status)?;
@@ -357,7 +399,7 @@ fn keep_name(work: &mut Work, object: &Pending, status: Status) -> Result<(), La
     if status.links < 2 {
         return Ok(());
     }
-    let name = String::from_str(work.alloc, object.host.as_str())?;
+    let name = String::from_str(work.alloc, object.reached.as_str())?;
     work.names.insert(status.ino, name)?;
     Ok(())
 }
@@ -389,11 +431,7 @@ fn unpack_file<R: Files, M: FileSystem>(
 ) -> Result<(), Lack>
     ensures { Asks M.Serves IsReading asker.old.machine asker.new.machine asker.old.is_whole asker.new.is_whole }
 {
-    let mut file = OpenOptions::new()
-        .write(true)
-        .create_new(true)
-        .mode(PRIVATE_FILE)
-        .open(rt, object.host.as_str())?;
+    let mut file = make_file(rt, object.reached.as_str())?;
     fill_file(asker, work, object, &mut file, ino, grants)
 }
 
@@ -459,12 +497,12 @@ fn unpack_link<R: Files, M: FileSystem>(
 {
     let path = work.place(&object.inside).path()?;
     let target = target_in(asker.call(work.pid, Call::Readlink(path))?)?;
-    make_link(rt, &target, object.host.as_str())
+    make_link(rt, &target, object.reached.as_str())
 }
 
-fn make_link<R: Files>(rt: &R, target: &Path, host: &str) -> Result<(), Lack> {
+fn make_link<R: Files>(rt: &R, target: &Path, reached: &str) -> Result<(), Lack> {
     match str::from_utf8(target.bytes()) {
-        Ok(text) => Ok(symlink(rt, text, host)?),
+        Ok(text) => Ok(symlink(rt, text, reached)?),
         Err(_) => Err(Lack::Name),
     }
 }
@@ -524,7 +562,7 @@ fn finish_directory<R: Files, M: FileSystem>(
     ensures { Asks M.Serves IsReading asker.old.machine asker.new.machine asker.old.is_whole asker.new.is_whole }
 {
     let stamps = stamps_of(asker, made.ino)?;
-    let directory = fs::open(rt, made.host.as_str())?;
+    let directory = fs::open(rt, made.reached.as_str())?;
     finish_file(&directory, made.grants.mode, stamps)?;
     made.grants.lack()
 }

@@ -3,38 +3,63 @@ ghost use Rattle.host_trees.specs.Copies.{Asks, IsMaking};
 
 use crate::asker::Asker;
 use crate::entry::Entry;
-use crate::fault::CopyFault;
 use crate::file_system::FileSystem;
 use crate::lack::Lack;
 use crate::owner::{Given, Owner};
 use crate::replies::pid_in;
+use crate::trail::{Entered, Step};
 use bitflags::Flags;
 use fs_cred::{Caps, Cred};
 use fs_layout::ROOT;
 use fs_model::{Call, Event, Path};
 use std::alloc::{AllocError, Global};
 use std::collections::BTreeMap;
-use std::fs::{self, Metadata};
+use std::fs::Metadata;
 use std::os::unix::fs::MetadataExt;
-use std::rt::Files;
 
 // How many bytes are read of a file at once.
 const ROOM: usize = 65_536;
 
-/// An object that is still to be copied: its path on the host and in the file system, which is empty for the root.
+/// A directory whose names are still to be copied: its path on the host, as it is told, and in the file system, which is empty for the
+/// root, and the step to it, unless it is the root.
 #[derive(Drop)]
 pub(crate) struct Pending {
     pub(crate) host: String,
     pub(crate) inside: String,
+    pub(crate) step: Option<Step>,
 }
 
 impl Pending {
-    fn new(alloc: Global, host: &str, inside: &str) -> Result<Pending, AllocError> {
+    fn new(
+        alloc: Global,
+        host: &str,
+        inside: &str,
+        step: Option<Step>,
+    ) -> Result<Pending, AllocError> {
         Ok(Pending {
             host: String::from_str(alloc, host)?,
             inside: String::from_str(alloc, inside)?,
+            step,
         })
     }
+}
+
+/// A directory that is open, whose names are copied.
+#[derive(Drop)]
+pub(crate) struct Directory {
+    pub(crate) host: String,
+    pub(crate) inside: String,
+    pub(crate) entered: Entered,
+}
+
+/// An object in it: its path on the host, as it is told, that by which it is reached, and that in the file system.
+#[derive(Drop)]
+pub(crate) struct Object<'a> {
+    pub(crate) name: &'a str,
+    pub(crate) above: Option<usize>,
+    pub(crate) host: String,
+    pub(crate) reached: String,
+    pub(crate) inside: String,
 }
 
 /// A directory that was made, and what it gets once its names are there.
@@ -74,13 +99,12 @@ pub(crate) struct Work {
 
 impl Work {
     /// Nothing is done yet: the names of the root are still to be copied.
-    pub(crate) fn new<R: Files + AllocGlobal>(
-        rt: &R,
+    pub(crate) fn new(
+        alloc: Global,
         from: &str,
+        metadata: &Metadata,
         given: Given,
-    ) -> Result<Work, CopyFault> {
-        let alloc = rt.alloc();
-        let entry = root_entry(rt, from, given)?;
+    ) -> Result<Work, AllocError> {
         let mut work = Work {
             alloc,
             given,
@@ -90,7 +114,7 @@ impl Work {
             hand: None,
             names: BTreeMap::new(alloc),
         };
-        work.begin(from, entry)?;
+        work.begin(from, Entry::of(metadata, given))?;
         Ok(work)
     }
 
@@ -98,21 +122,22 @@ impl Work {
     fn begin(&mut self, from: &str, entry: Entry) -> Result<(), AllocError> {
         self.room.resize(ROOM, 0)?;
         self.made.push(Made::new(self.alloc, "/", ROOT, entry)?)?;
-        self.pending.push(Pending::new(self.alloc, from, "")?)?;
+        self.pending
+            .push(Pending::new(self.alloc, from, "", None)?)?;
         Ok(())
     }
 
     /// Keeps in mind what is still to be done of a directory that was made.
     pub(crate) fn keep_directory(
         &mut self,
-        object: &Pending,
+        object: &Object<'_>,
         ino: u32,
         entry: Entry,
     ) -> Result<(), Lack> {
-        let Pending { host, inside } = object;
-        let made = Made::new(self.alloc, inside.as_str(), ino, entry)?;
-        self.made.push(made)?;
-        let pending = Pending::new(self.alloc, host.as_str(), inside.as_str())?;
+        let (host, inside) = (object.host.as_str(), object.inside.as_str());
+        self.made.push(Made::new(self.alloc, inside, ino, entry)?)?;
+        let step = Step::new(self.alloc, object.above, object.name, entry.identity)?;
+        let pending = Pending::new(self.alloc, host, inside, Some(step))?;
         self.pending.push(pending)?;
         Ok(())
     }
@@ -129,7 +154,11 @@ impl Work {
     }
 
     /// Keeps in mind under which name an object with several was copied.
-    pub(crate) fn keep_name(&mut self, metadata: &Metadata, object: &Pending) -> Result<(), Lack> {
+    pub(crate) fn keep_name(
+        &mut self,
+        metadata: &Metadata,
+        object: &Object<'_>,
+    ) -> Result<(), Lack> {
         if metadata.nlink() < 2 {
             return Ok(());
         }
@@ -147,23 +176,28 @@ impl Work {
     }
 }
 
-fn root_entry<R: Files>(rt: &R, from: &str, given: Given) -> Result<Entry, CopyFault> {
-    match fs::metadata(rt, from) {
-        Ok(metadata) if metadata.is_dir() => Ok(Entry::of(&metadata, given)),
-        _ => Err(CopyFault::NoDirectory),
-    }
-}
-
 /// A path in the file system.
 pub(crate) fn path_of(alloc: Global, path: &str) -> Result<Path, AllocError> {
     Path::from_slice(alloc, path.as_bytes())
 }
 
 /// The paths of a name in a directory.
-pub(crate) fn below(alloc: Global, directory: &Pending, name: &str) -> Result<Pending, AllocError> {
-    let Pending { host, inside } = directory;
-    Ok(Pending {
+pub(crate) fn below<'a>(
+    alloc: Global,
+    directory: &Directory,
+    name: &'a str,
+) -> Result<Object<'a>, AllocError> {
+    let Directory {
+        host,
+        inside,
+        entered,
+    } = directory;
+    let open = entered.path.as_str();
+    Ok(Object {
+        name,
+        above: entered.number,
         host: format!(in alloc; "{host}/{name}")?,
+        reached: format!(in alloc; "{open}/{name}")?,
         inside: format!(in alloc; "{inside}/{name}")?,
     })
 }

@@ -451,7 +451,7 @@ fn the_program_does_what_its_words_say(rt: HostRuntime) -> Result<(), Fail> {
 const FINDING: Finding = Finding { rule: 6, at: 147 };
 
 // What is printed where a job isn't done.
-static FAILURES: [(Failure, &str); 28] = [
+static FAILURES: [(Failure, &str); 30] = [
     (Failure::Exists, "image: exists"),
     (Failure::NotCreated, "image: cannot create"),
     (Failure::NotOpened, "image: cannot open"),
@@ -508,6 +508,8 @@ static FAILURES: [(Failure, &str); 28] = [
     (Failure::Run(RunFault::OutOfMemory), "run: OutOfMemory"),
     (Failure::Run(RunFault::TooMuch), "run: TooMuch"),
     (Failure::Pack(CopyFault::NotSynced), "pack: NotSynced"),
+    (Failure::Pack(CopyFault::NoProc), "pack: NoProc"),
+    (Failure::Unpack(CopyFault::Changed), "unpack: Changed"),
     (
         Failure::Unpack(CopyFault::OutOfMemory),
         "unpack: OutOfMemory",
