@@ -33,11 +33,22 @@ fn compare(one: &Named, other: &Named) -> Ordering
         .then_with(|| one.ino.cmp(&other.ino))
 }
 
-/// The names of a listing in the order in which they are told. It takes no memory.
+// Where a name of a listing stands.
+fn named_place(named: &Named) -> u64
+    ensures { result ≡ listing_place named.now.name }
+{
+    listing_place(named.name.bytes())
+}
+
+/// The names of a listing in the order in which they are told.
+///
+/// They are brought into it by places that are made once, so that a comparison for each is left. Where memory for these is lacking, the
+/// places are made anew for each of many comparisons.
 pub fn in_order(listing: Listing) -> Listing
     ensures { result ≡ in_order listing }
 {
     let mut names = listing.into_names();
+    let _brought = names.sort_by_cached_key(named_place);
     names.sort_unstable_by(compare);
     Listing::new(names)
 }
