@@ -5,19 +5,13 @@ import pathlib
 import time
 
 from mounted_crowds import work_dir
-from mounted_waits import NAMES, link_all, other_names, picked_names
+from mounted_waits import MEBIBYTE, NAMES, link_all, memory, other_names, picked_names
 from mounts import Worker
 
-MEBIBYTE = 1 << 20
 ALONE, BESIDE = 10, 60  # seconds
 OPENINGS = 128
 SHARE = 0.9  # of the calls that took no longer
 NO_SPACE_YET = 64 * MEBIBYTE
-
-
-def memory(process):
-    """In bytes."""
-    return int(pathlib.Path(f'/proc/{process}/statm').read_text().split()[1]) * os.sysconf('SC_PAGE_SIZE')
 
 
 def at_share(times):

@@ -1,5 +1,6 @@
-"""What one user may make the server do while another waits: names that are picked, callers with many groups, and an image that was made to be
-long to check. None of the users is root."""
+"""What one user may make the server do and keep while another waits: names that are picked, listings of a megabyte, a directory that is opened
+often, callers with many groups, and an image that was made to be long to check. None of the users is root."""
+import ctypes
 import itertools
 import os
 import pathlib
@@ -10,7 +11,11 @@ import time
 from mounted_crowds import work_dir
 from mounts import as_user
 
+LIBC = ctypes.CDLL(None, use_errno=True)
+GETDENTS64 = 217
+MEBIBYTE = 1 << 20
 NAMES = 4096
+OPENINGS = 100
 MOST_GROUPS = 4096
 # Of an image of version 3 with 64 MiB: where its table of inodes begins, its last sector, and where an inode names its triple indirect one.
 SECTOR, TABLE, LAST, INODE, TRIPLE = 512, 1320, 131_071, 128, 92
@@ -45,6 +50,11 @@ def processor_time(process):
     return int(pathlib.Path(f'/proc/{process}/schedstat').read_text().split()[0])
 
 
+def memory(process):
+    """In bytes."""
+    return int(pathlib.Path(f'/proc/{process}/statm').read_text().split()[1]) * os.sysconf('SC_PAGE_SIZE')
+
+
 def look_at(folder, names):
     for name in names:
         os.stat(folder / name)
@@ -64,6 +74,49 @@ def picked(mounted, told, folder):
     times = [time_of_looks(mounted, folder, names) for names in (other_names(), picked_names())]
     print(f'waits: {NAMES:,} look-ups took {times[0] / 1e6:.0f} ms of the server, of picked names {times[1] / 1e6:.0f}')
     told.compare('waits', 'look-ups of picked names take less than twice as long', None, times[1] < 2 * times[0], True)
+
+
+def names_at_once(folder):
+    """How many names one call answers that has room for a megabyte of them."""
+    place, room = os.open(folder, os.O_DIRECTORY), ctypes.create_string_buffer(MEBIBYTE)
+    length = LIBC.syscall(GETDENTS64, place, room, MEBIBYTE)
+    count, at = 0, 0
+    while at < length:
+        at += struct.unpack_from('<H', room, at + 16)[0]
+        count += 1
+    os.close(place)
+    return count
+
+
+def list_often(folder):
+    """Opens a directory and lists it, each time behind a change of it; then waits to be told to end."""
+    places = []
+    for n in range(OPENINGS):
+        (folder / 'change').touch()
+        (folder / 'change').unlink()
+        places.append(os.open(folder, os.O_DIRECTORY))
+        os.listdir(places[-1])
+    return 'listed'
+
+
+def memory_of_listings(mounted, folder):
+    """How much more memory the server has once the directory is open so often and was listed each time, than once it was listed."""
+    os.listdir(folder)
+    before = memory(mounted.server())
+
+    def work():
+        list_often(folder)
+        return memory(mounted.server()) - before
+    return int(as_user('ann', work))
+
+
+def listings(mounted, told, folder):
+    forget_names()
+    seen = int(as_user('bob', lambda: names_at_once(folder)))
+    told.compare('waits', 'names of one call that has room for a megabyte of them are at most 128', None, 0 < seen <= 128, True)
+    more = memory_of_listings(mounted, folder)
+    print(f'waits: {OPENINGS} openings of a directory of {2 * NAMES:,} names, each listed, took {more / MEBIBYTE:.1f} MiB more of the server')
+    told.compare('waits', f'memory of {OPENINGS} listings of one directory is at most 4 MiB more', None, more <= 4 * MEBIBYTE, True)
 
 
 def many_groups(mounted, told):
@@ -103,6 +156,7 @@ def waits(mounted, told):
         folder = work_dir(mounted, 'crowded', user=1000)
         as_user('ann', lambda: link_all(folder, picked_names() + other_names()))
         picked(mounted, told, folder)
+        listings(mounted, told, folder)
     many_groups(mounted, told)
     mounted.end()
     crafted(mounted, told)
