@@ -157,9 +157,9 @@ asks-remove_xattr r name = asks-needed_then _ (acl_named name) (λ which is. ask
 -- ---- directories and the whole
 
 module _ {o : Option Operation} where
-  asks-take_directory_if : (uid n : ℕ) (may : Bool) → Asks o (take_directory_if uid n may)
-  asks-take_directory_if uid n false = asks-fail _
-  asks-take_directory_if uid n true = search pieces depth 12
+  asks-take_directory_if : (uid node : ℕ) (may : Bool) → Asks o (take_directory_if uid node may)
+  asks-take_directory_if uid node false = asks-fail _
+  asks-take_directory_if uid node true = search pieces depth 12
 
   asks-open_directory : (r : Asked) → Asks o (open_directory r)
   unfolding take_directory
@@ -170,13 +170,13 @@ module _ {o : Option Operation} where
   asks-list_all n false = asks-give []
   asks-list_all n true = search pieces depth 20
 
-  asks-list_now : (node handle number : ℕ) → Asks o (list_now node handle number)
-  asks-list_now node handle number = search (pieces, asks-list_all) depth 16
+  asks-list_now : (node handle opened : ℕ) → Asks o (list_now node handle opened)
+  asks-list_now node handle opened = search (pieces, asks-list_all) depth 16
 
   asks-listed : (node handle : ℕ) (d : OpenDirectory) (anew : Bool) (known : Option (List (List ℕ × ℕ))) → Asks o (listed node handle d anew known)
   asks-listed node handle d false (Some names) = asks-give names
-  asks-listed node handle d false None = asks-list_now node handle d.ino
-  asks-listed node handle d true known = asks-list_now node handle d.ino
+  asks-listed node handle d false None = asks-list_now node handle d.node
+  asks-listed node handle d true known = asks-list_now node handle d.node
 
   asks-list_kept : (node : ℕ) (extent : Extent) → Asks o (list_kept node extent)
   unfolding list_kept

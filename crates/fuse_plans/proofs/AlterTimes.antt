@@ -18,7 +18,7 @@ use Rattle.fuse_protocol.specs.declared.reply.Time.{Time}
 use Rattle.fuse_state.specs.declared.directory.OpenDirectory.{OpenDirectory}
 use Rattle.fuse_state.specs.declared.dentry.Dentry.{Dentry}
 use Rattle.fuse_state.specs.Changes.{is_gone, with_found}
-use Rattle.fuse_state.specs.Servers.{Server, forgotten, all_forgotten, times_of, with_listing, with_listing_of, with_dentry, once_more, with_generation, directory_of, with_handle, without_handle, with_opened, without_directory, with_end, with_the_server_process, with_acls_offered}
+use Rattle.fuse_state.specs.Servers.{Server, forgotten, all_forgotten, times_of, with_listing, with_dentry, once_more, with_generation, directory_of, with_handle, without_handle, with_opened, without_directory, with_end, with_the_server_process, with_acls_offered}
 use Rattle.fuse_state.proofs.Forgotten.{forgotten_keeps, all_forgotten_keep}
 use Rattle.fuse_plans.specs.declared.request.Asked.{Asked}
 use Rattle.fuse_plans.specs.declared.request_error.RequestError.{RequestError}
@@ -78,11 +78,7 @@ found-keeps p n kind s = choose (is_gone s n)
     choose false = record { times = refl; start = refl }
 
 listing-keeps : (handle : ℕ) (names : List (List ℕ × ℕ)) → KeepsTimes (with_listing handle names)
-listing-keeps handle names s = choose (directory_of s handle)
-  where
-    choose : (d : Option OpenDirectory) → SameTimes s (with_listing_of handle names d s)
-    choose None = times-self s
-    choose (Some d) = record { times = refl; start = refl }
+listing-keeps handle names s = record { times = refl; start = refl }
 
 keeps-found_or_absent : (nobody : Bool) (d : ℕ) (name : List ℕ) (seen : Result Status RequestError) → Timeless (found_or_absent nobody d name seen)
 keeps-found_or_absent nobody d name (Ok status) = search (pieces, found-keeps) depth 12
@@ -155,12 +151,12 @@ keeps-attribute_names n true = search (pieces, keeps-acl_of) depth 12
 keeps-list_xattrs : (r : Asked) (size : ℕ) → Timeless (list_xattrs r size)
 keeps-list_xattrs r size = search (pieces, keeps-attribute_names) depth 16
 
-opened-keeps : (uid n : ℕ) → KeepsTimes (with_opened uid n)
-opened-keeps uid n s = record { times = refl; start = refl }
+opened-keeps : (uid node : ℕ) → KeepsTimes (with_opened uid node)
+opened-keeps uid node s = record { times = refl; start = refl }
 
-keeps-take_directory_if : (uid n : ℕ) (may : Bool) → Timeless (take_directory_if uid n may)
-keeps-take_directory_if uid n false = leaves-fail times-order _
-keeps-take_directory_if uid n true = search (pieces, opened-keeps) depth 12
+keeps-take_directory_if : (uid node : ℕ) (may : Bool) → Timeless (take_directory_if uid node may)
+keeps-take_directory_if uid node false = leaves-fail times-order _
+keeps-take_directory_if uid node true = search (pieces, opened-keeps) depth 12
 
 keeps-open_directory : (r : Asked) → Timeless (open_directory r)
 unfolding take_directory
@@ -171,13 +167,13 @@ unfolding tell_names list_open
 keeps-list_all n false = leaves-give times-order []
 keeps-list_all n true = search pieces depth 20
 
-keeps-list_now : (node handle number : ℕ) → Timeless (list_now node handle number)
-keeps-list_now node handle number = search (pieces, keeps-list_all, listing-keeps) depth 20
+keeps-list_now : (node handle opened : ℕ) → Timeless (list_now node handle opened)
+keeps-list_now node handle opened = search (pieces, keeps-list_all, listing-keeps) depth 20
 
 keeps-listed : (node handle : ℕ) (d : OpenDirectory) (anew : Bool) (known : Option (List (List ℕ × ℕ))) → Timeless (listed node handle d anew known)
 keeps-listed node handle d false (Some names) = leaves-give times-order names
-keeps-listed node handle d false None = keeps-list_now node handle d.ino
-keeps-listed node handle d true known = keeps-list_now node handle d.ino
+keeps-listed node handle d false None = keeps-list_now node handle d.node
+keeps-listed node handle d true known = keeps-list_now node handle d.node
 
 keeps-list_kept : (node : ℕ) (extent : Extent) → Timeless (list_kept node extent)
 unfolding list_kept

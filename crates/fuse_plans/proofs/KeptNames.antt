@@ -169,13 +169,13 @@ IfTellsNone task = IfTellsSo (IsFor 0) task
 for-sized : (size has : ℕ) (body : ReplyBody) → IsFor 0 body → TellsFor 0 (sized size has body)
 for-sized size has body is = so-if _ _ _ (so-give _ (refl, refl)) (so-if _ _ _ (so-fail _) (so-give body is))
 
-for-take_directory_if : (uid n : ℕ) (may : Bool) → TellsFor 0 (take_directory_if uid n may)
-for-take_directory_if uid n false = so-fail _
-for-take_directory_if uid n true = so-after _ (λ handle. so-after _ (λ opened. so-kept _ (λ s. (refl, refl))))
+for-take_directory_if : (uid node : ℕ) (may : Bool) → TellsFor 0 (take_directory_if uid node may)
+for-take_directory_if uid node false = so-fail _
+for-take_directory_if uid node true = so-after _ (λ handle. so-after _ (λ opened. so-kept _ (λ s. (refl, refl))))
 
-for-take_directory : (uid n : ℕ) → TellsFor 0 (take_directory uid n)
+for-take_directory : (uid node : ℕ) → TellsFor 0 (take_directory uid node)
 unfolding take_directory
-for-take_directory uid n = so-after _ (for-take_directory_if uid n)
+for-take_directory uid node = so-after _ (for-take_directory_if uid node)
 
 for-read_directory : (node : ℕ) (extent : _) → TellsFor 0 (read_directory node extent)
 unfolding read_directory
@@ -243,7 +243,7 @@ plain-plan r value (GetXAttr name size) is = so-after _ (λ which. so-after _ (�
 plain-plan r value (ListXAttr size) is = so-after _ (λ n. so-after _ (λ has. so-after _ (λ names. for-sized size _ _ (refl, refl))))
 plain-plan r value (RemoveXAttr name) is = so-after _ (λ which. for-set_acl r which None)
 plain-plan r value (Init offer) is = for-begin offer
-plain-plan r value OpenDir is = so-after _ (λ n. so-after _ (λ cred. so-after _ (λ placed. so-after _ (λ may. for-take_directory cred.uid n))))
+plain-plan r value OpenDir is = so-after _ (λ n. so-after _ (λ cred. so-after _ (λ placed. so-after _ (λ may. for-take_directory cred.uid r.node))))
 plain-plan r value (ReadDir extent) is = for-read_directory r.node extent
 plain-plan r value (ReadDirPlus extent) is = for-read_directory_plus r.needs_nobody r.node extent
 plain-plan r value (ReleaseDir handle) is = for-close_directory handle

@@ -14,7 +14,7 @@ use Rattle.fuse_protocol.specs.declared.operation.AttrChanges.{AttrChanges}
 use Rattle.fuse_protocol.specs.declared.operation.Operation.TheVariants.{SetAttr}
 use Rattle.fuse_plans.specs.declared.reply.ReplyBody.{ReplyBody}
 use Rattle.fuse_state.specs.declared.directory.OpenDirectory.{OpenDirectory}
-use Rattle.fuse_state.specs.Servers.{Server, owner_of, descriptor_of, directory_of, may_open_directory, with_listing, with_listing_of}
+use Rattle.fuse_state.specs.Servers.{Server, owner_of, descriptor_of, directory_of, may_open_directory, with_listing}
 use Rattle.fuse_state.proofs.Holders.{opened_within, listed_within, released_within}
 use Rattle.fuse_plans.specs.declared.request_error.RequestError.TheVariants.{Lacks}
 use Rattle.fuse_plans.specs.declared.request_error.OtherErrno.TheVariants.{EOPNOTSUPP}
@@ -50,14 +50,6 @@ module _ {rights : Rights} {P : Server → Type 0} where
 abbrev pub HandleIs : Rights → Option ℕ → Type 0
 HandleIs rights None = Unit {0}
 HandleIs rights (Some handle) = rights.handle ≡ Some handle
-
-listing-same : (handle : ℕ) (names : List (List ℕ × ℕ)) (s : Server)
-    → ((with_listing handle names s).processes ≡ s.processes) × ((with_listing handle names s).server_process ≡ s.server_process)
-listing-same handle names s = choose (directory_of s handle)
-  where
-    choose : (o : Option OpenDirectory) → ((with_listing_of handle names o s).processes ≡ s.processes) × ((with_listing_of handle names o s).server_process ≡ s.server_process)
-    choose None = (refl, refl)
-    choose (Some d) = (refl, refl)
 
 module _ {rights : Rights} (r : Asked) (is : rights.cred ≡ r.cred) (asks : AsksOf rights r.node) where
   pub lasts-get_attributes : Lasts rights (Still rights) (get_attributes r)
@@ -170,18 +162,18 @@ module _ {rights : Rights} (r : Asked) (is : rights.cred ≡ r.cred) (asks : Ask
 
   -- ---- directories
 
-  does-take_directory : (uid n : ℕ) → Does rights Any (take_directory uid n)
+  does-take_directory : (uid node : ℕ) → Does rights Any (take_directory uid node)
   unfolding take_directory kept keep give fail ◌>>=◌
-  does-take_directory uid n = record { goes = λ known s fits. takes known s fits (may_open_directory s uid) refl }
+  does-take_directory uid node = record { goes = λ known s fits. takes known s fits (may_open_directory s uid) refl }
     where
       takes : (known : Known) (s : Server) → Fits rights Any known s → (b : Bool) → may_open_directory s uid ≡ b
-          → KeepsTo (conduct rights) (Left rights Any) known (take_directory_if uid n b s)
+          → KeepsTo (conduct rights) (Left rights Any) known (take_directory_if uid node b s)
       takes known s fits false is = fits
       takes known s fits true is = record {
         home = fits.home;
         processes = fits.processes;
         server_process = fits.server_process;
-        shares = λ start. opened_within s uid n is (fits.shares start);
+        shares = λ start. opened_within s uid node is (fits.shares start);
         holds = tt;
       }
 
@@ -190,7 +182,7 @@ module _ {rights : Rights} (r : Asked) (is : rights.cred ≡ r.cred) (asks : Ask
       then-lasts (gives-directory_number _ (is-object rights _ asks)) (λ n object.
       lasts->>= (does-needed _ _) (λ cred.
       lasts->>= (does-kept _) (λ placed.
-      ends->>= (lasts-when placed _ (lasts-access_as n _ object)) (λ may. does-take_directory cred.uid n))))
+      ends->>= (lasts-when placed _ (lasts-access_as n _ object)) (λ may. does-take_directory cred.uid r.node))))
 
   pub lasts-read_link : Lasts rights (Still rights) (read_link r)
   lasts-read_link =
@@ -213,32 +205,26 @@ module _ {rights : Rights} (r : Asked) (is : rights.cred ≡ r.cred) (asks : Ask
       does->>= (does-list_open pid fd server_process) (λ names.
       does->>= (does-obtain pid _ (looks pid server_process _ refl) (without_path refl refl refl)) (λ closed. does-give names)))))
 
-  listing-still : (handle : ℕ) (names : List (List ℕ × ℕ)) (s : Server) → Still rights s → Still rights (with_listing handle names s)
-  listing-still handle names s still = choose (directory_of s handle)
-    where
-      choose : (o : Option OpenDirectory) → Still rights (with_listing_of handle names o s)
-      choose None = still
-      choose (Some d) = still-as refl refl refl still
-
-  lasts-list_now : (handle number : ℕ) → Lasts rights (Still rights) (list_now r.node handle number)
-  lasts-list_now handle number =
+  lasts-list_now : (handle opened : ℕ) → Lasts rights (Still rights) (list_now r.node handle opened)
+  lasts-list_now handle opened =
       then-does (gives-number _ (is-object rights _ asks)) (λ n object.
       does->>= (does-if _ _ _ (does-give tt) (does-fail _)) (λ same.
       does->>= (does-kept _) (λ placed.
       does->>= (does-list_all n placed object) (λ names.
-      does->>= (does-keep_within _ (listing-same handle (in_order names)) (λ s still within start. listed_within s handle (in_order names) (within start))
-      (λ s still. listing-still handle (in_order names) s still)) (λ done. does-give (in_order names))))))
+      does->>= (does-keep_within _ (λ s. (refl, refl)) (λ s still within start. listed_within s handle (in_order names) (within start))
+      (λ s still. still-as refl refl refl still)) (λ done. does-give (in_order names))))))
 
   lasts-listed_anew : (handle : ℕ) (d : OpenDirectory) (anew : Bool) (known : Option (List (List ℕ × ℕ))) → Lasts rights (Still rights) (listed r.node handle d anew known)
   lasts-listed_anew handle d false (Some names) = does-lasts (does-give names)
-  lasts-listed_anew handle d false None = lasts-list_now handle d.ino
-  lasts-listed_anew handle d true known = lasts-list_now handle d.ino
+  lasts-listed_anew handle d false None = lasts-list_now handle d.node
+  lasts-listed_anew handle d true known = lasts-list_now handle d.node
 
   pub lasts-list_kept : (extent : Extent) → Lasts rights (Still rights) (list_kept r.node extent)
   unfolding list_kept
   lasts-list_kept extent =
       lasts->>= (does-kept _) (λ known.
-      lasts->>= (does-needed _ known) (λ d. lasts-listed_anew extent.handle d _ _))
+      lasts->>= (does-needed _ known) (λ d.
+      lasts->>= (does-kept _) (λ made. lasts-listed_anew extent.handle d _ made)))
 
   pub lasts-read_directory : (extent : Extent) → Lasts rights (Still rights) (read_directory r.node extent)
   unfolding read_directory

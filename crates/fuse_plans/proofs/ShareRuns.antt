@@ -91,8 +91,8 @@ has_room_for shares holders uid keeps (as_root is lt) = subst (λ u. may_hold sh
 
 pub directories_are_found : DirectoriesAreFound
 unfolding take_directory kept keep give ◌>>=◌
-directories_are_found s uid n within share =
-    ap (λ b. take_directory_if uid n b s) (has_room_for directory_shares (directory_holders s) uid within.directories share)
+directories_are_found s uid node within share =
+    ap (λ b. take_directory_if uid node b s) (has_room_for directory_shares (directory_holders s) uid within.directories share)
 
 -- ---- processes that may end
 

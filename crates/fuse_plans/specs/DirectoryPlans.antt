@@ -19,7 +19,7 @@ use Rattle.fuse_protocol.specs.Entries.{directory_entry_bytes, entry_size}
 use Rattle.fuse_plans.specs.declared.reply.ReplyBody.{ReplyBody}
 use Rattle.fuse_plans.specs.declared.reply.ReplyBody.TheVariants.{Nothing, Opened, Bytes}
 use Rattle.fuse_state.specs.declared.settings.Settings.{Settings}
-use Rattle.fuse_state.specs.Servers.{Server, may_open_directory, directory_of, with_opened, with_listing, without_directory}
+use Rattle.fuse_state.specs.Servers.{Server, may_open_directory, directory_of, listing_of, with_opened, with_listing, without_directory}
 use Rattle.fuse_state.specs.declared.directory.OpenDirectory.{OpenDirectory}
 use Rattle.fuse_plans.specs.Works.{Work, give, fail, kept, keep, ◌>>=◌, ◌>>◌, attempt, needed, obtain, or_closed, replied_fd, replied_names}
 use Rattle.fuse_plans.specs.Callers.{the_server_process, has_dentry, on, the_number, directory_number}
@@ -36,17 +36,17 @@ abbrev pub opened_directory_body : ℕ → Server → ReplyBody
 opened_directory_body handle s = Opened handle (directory_flags s.settings)
 
 abbrev pub take_directory_if : ℕ → ℕ → Bool → Work ReplyBody
-take_directory_if uid n false = fail (Lacks ENFILE)
-take_directory_if uid n true = do
+take_directory_if uid node false = fail (Lacks ENFILE)
+take_directory_if uid node true = do
   handle ← kept (λ s. s.next_directory)
-  keep (with_opened uid n)
+  keep (with_opened uid node)
   kept (opened_directory_body handle)
 
 -- where the user may open one more
 unfoldable pub take_directory : ℕ → ℕ → Work ReplyBody
-take_directory uid n = do
+take_directory uid node = do
   may ← kept (λ s. may_open_directory s uid)
-  take_directory_if uid n may
+  take_directory_if uid node may
 
 -- Asks for reading, as who asks; of a directory that was removed nothing is asked.
 abbrev pub open_directory : Asked → Work ReplyBody
@@ -55,7 +55,7 @@ open_directory r = do
   cred ← needed (failed EACCES) r.cred
   placed ← kept (λ s. has_dentry s n)
   when placed (access_as r.cred n (perms_of 4))
-  take_directory cred.uid n
+  take_directory cred.uid r.node
 
 -- ---- listings
 
@@ -105,23 +105,23 @@ list_all n true = do
   list_and_close pid fd
 
 -- once the directory is gone another may have its number
-abbrev pub only_number : ℕ → ℕ → Work (Unit {0})
-only_number number n = if n == number then give tt else fail (Lacks ESTALE)
+abbrev pub only_node : ℕ → ℕ → Work (Unit {0})
+only_node opened node = if node == opened then give tt else fail (Lacks ESTALE)
 
 -- the names that are there now, in the directory of the node, if that is the one that is open
 abbrev pub list_now : ℕ → ℕ → ℕ → Work (List (List ℕ × ℕ))
-list_now node handle number = do
+list_now node handle opened = do
   n ← the_number node
-  only_number number n
+  only_node opened node
   placed ← kept (λ s. has_dentry s n)
   names ← list_all n placed
   keep (with_listing handle (in_order names))
   give (in_order names)
 
--- at the beginning it is listed anew
+-- At the beginning it is listed anew. Else whichever listing of it was made last goes on: offsets follow from names alone.
 abbrev pub listed : ℕ → ℕ → OpenDirectory → Bool → Option (List (List ℕ × ℕ)) → Work (List (List ℕ × ℕ))
 listed node handle d false (Some names) = give names
-listed node handle d _ _ = list_now node handle d.ino
+listed node handle d _ _ = list_now node handle d.node
 
 abbrev pub tell_listed : Extent → List (List ℕ × ℕ) → Work ReplyBody
 tell_listed extent names = give (Bytes (listing_bytes extent.size (behind extent.offset names)))
@@ -131,7 +131,8 @@ unfoldable pub list_kept : ℕ → Extent → Work (List (List ℕ × ℕ))
 list_kept node extent = do
   known ← kept (λ s. directory_of s extent.handle)
   d ← needed (failed EBADF) known
-  listed node extent.handle d (extent.offset == 0) d.listing
+  made ← kept (λ s. listing_of s extent.handle)
+  listed node extent.handle d (extent.offset == 0) made
 
 unfoldable pub read_directory : ℕ → Extent → Work ReplyBody
 read_directory node extent = do

@@ -1,9 +1,10 @@
 -- The plan of READDIRPLUS: a directory is listed as by READDIR, and each name that fits is looked up as by LOOKUP.
 --     names_within        the names that fit
+--     bounded        as much as is told at once
 --     find_listed, look_up_names        what the server's own process finds under a name, and under several
 --     told_record, records_bytes        the record of a name by what was found, and those of several
 --     read_directory_plus        the request
-use Rattle.std.specs.Prelude.{ℕ, ◌-◌, nat_le, Bool, List, [], ◌∷◌, length, Option, None, Some, Result, Ok, if◌then◌else◌}
+use Rattle.std.specs.Prelude.{ℕ, ◌-◌, min, nat_le, Bool, List, [], ◌∷◌, length, Option, None, Some, Result, Ok, if◌then◌else◌}
 use Rattle.std.specs.List.{flat_map}
 use Rattle.fs_cred.specs.declared.errno.Errno.TheVariants.{EINVAL}
 use Rattle.fs_model.specs.declared.reply.FileType.{FileType}
@@ -34,6 +35,13 @@ names_within size [] = []
 names_within size (e ∷ es) =
     let needs = record_size (length e.1.0) in
     if nat_le needs size then e ∷ names_within (size - needs) es else []
+
+-- No more is told at once, whatever the kernel has room for: so one request looks up at most 107 names, and others wait no longer for it.
+abbrev pub most_looked_up : ℕ
+most_looked_up = 16384
+
+abbrev pub bounded : Extent → Extent
+bounded extent = record extent { size = min extent.size most_looked_up }
 
 -- ---- look-ups
 
@@ -96,10 +104,10 @@ records_bytes ls = flat_map (λ l. directory_record_bytes (told_record l)) ls
 
 -- ---- the request
 
--- those of the names that fit are looked up in the directory of the node
+-- those of the names that fit into what is told at once are looked up in the directory of the node
 abbrev pub tell_looked_up : Bool → Result ℕ RequestError → Extent → List (List ℕ × ℕ) → Work ReplyBody
 tell_looked_up nobody place extent names = do
-  found ← look_up_names nobody place (names_within extent.size (behind extent.offset names))
+  found ← look_up_names nobody place (names_within (bounded extent).size (behind extent.offset names))
   give (Bytes (records_bytes found))
 
 unfoldable pub read_directory_plus : Bool → ℕ → Extent → Work ReplyBody

@@ -55,5 +55,5 @@ pub record ProcessesAreFound : Type 0 where
 -- A user who has a share opens one more directory.
 abbrev pub DirectoriesAreFound : Type 0
 DirectoriesAreFound =
-    (s : Server) (uid n : ℕ) → WithinShares s → HasShare directory_shares (directory_holders s) uid
-    → take_directory uid n s ≡ Finish (Ok (opened_directory_body s.next_directory s), with_opened uid n s)
+    (s : Server) (uid node : ℕ) → WithinShares s → HasShare directory_shares (directory_holders s) uid
+    → take_directory uid node s ≡ Finish (Ok (opened_directory_body s.next_directory s), with_opened uid node s)

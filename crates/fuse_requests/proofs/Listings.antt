@@ -1,5 +1,5 @@
 -- Names of a listing, which are looked up.
---     found-directories        what is open stays so where a name is found
+--     same-listing        the listing of what stayed open
 --     still-fits        a name whose record had room has it then too
 --     has-some, has-none, listing-kept        what was listed is kept
 --     then-listed, then-unlisted        names that are kept, or why there are none, by work that ends so
@@ -25,7 +25,7 @@ use Rattle.fuse_protocol.specs.declared.reply.FoundEntry.{FoundEntry}
 use Rattle.fuse_protocol.specs.Bytes.{bytes_of_u32s, bytes_of_u64s}
 use Rattle.fuse_protocol.specs.Entries.{directory_entry_bytes, directory_record_bytes, entry_size, found_bytes, record_size}
 use Rattle.fuse_state.specs.declared.directory.OpenDirectory.{OpenDirectory}
-use Rattle.fuse_state.specs.Servers.{Server, directory_of, listing_in, listing_of, named_at, with_listing, with_listing_of}
+use Rattle.fuse_state.specs.Servers.{Server, directory_of, listing_in, listing_of, listings_with, named_at, with_listing}
 use Rattle.fuse_plans.specs.declared.request_error.RequestError.{RequestError}
 use Rattle.fuse_plans.specs.declared.reply.ReplyBody.{ReplyBody}
 use Rattle.fuse_plans.specs.declared.reply.ReplyBody.TheVariants as bodies
@@ -38,15 +38,20 @@ use Rattle.fuse_requests.specs.Listings.{Listed}
 use Rattle.fuse_sessions.specs.Performing.{Did}
 use Rattle.fuse_sessions.proofs.Doings.{gives, same-work, then-ok}
 
-same-named : (s t : Server) (handle at : ℕ) → s.directories ≡ t.directories → named_at s handle at ≡ named_at t handle at
-same-named s t handle at is = ap (λ ds. option_and_then (λ names. slice_get names at) (listing_in (get nat_cmp ds handle))) is
+-- where what is open stayed, and the listings of it
+pub same-listing : (s t : Server) (handle : ℕ) → t.directories ≡ s.directories → t.listings ≡ s.listings → listing_of t handle ≡ listing_of s handle
+same-listing s t handle directories listings =
+    ap (λ ls. listing_in ls (directory_of t handle)) listings ∙ ap (λ ds. listing_in s.listings (get nat_cmp ds handle)) directories
 
--- where what is open stayed, the same name still has room
-pub still-fits : (s t : Server) (handle at held most : ℕ) (e : List ℕ × ℕ) {b : Bool} → Some e ≡ named_at t handle at → t.directories ≡ s.directories
+-- then the same name still has room
+pub still-fits : (s t : Server) (handle at held most : ℕ) (e : List ℕ × ℕ) {b : Bool} → Some e ≡ named_at t handle at
+    → t.directories ≡ s.directories → t.listings ≡ s.listings
     → ((x : List ℕ × ℕ) → named_at s handle at ≡ Some x → b ≡ nat_le (held + record_size (length x.0)) most) → b ≡ true
     → held + record_size (length e.0) ≤ most
-still-fits s t handle at held most e named same fits is =
-    leb-true (held + record_size (length e.0)) most (sym (fits e (sym (named ∙ same-named t s handle at same))) ∙ is)
+still-fits s t handle at held most e named directories listings fits is =
+    let same : named_at t handle at ≡ named_at s handle at =
+    ap (option_and_then (λ names. slice_get names at)) (same-listing s t handle directories listings) in
+    leb-true (held + record_size (length e.0)) most (sym (fits e (sym (named ∙ same))) ∙ is)
 
 pub has-some : {X : Type 0} (o : Option X) → IsSome o → (x : X) × (o ≡ Some x)
 has-some None is = absurd (cc)
@@ -60,12 +65,11 @@ pub listing-kept : (handle : ℕ) (names : List (List ℕ × ℕ)) (s : Server) 
     → listing_of (with_listing handle names s) handle ≡ Some names
 listing-kept handle names s known = go (directory_of s handle) known
   where
-    go : (o : Option OpenDirectory) → IsSome o → listing_of (with_listing_of handle names o s) handle ≡ Some names
+    go : (o : Option OpenDirectory) → IsSome o → listing_in (listings_with s.listings o names) o ≡ Some names
     go None is = absurd (cc)
     go (Some d) is =
-        let now : OpenDirectory = record d { listing = Some names } in
-        ap listing_in (get-with_entry s.directories handle now handle
-        ∙ ap (λ b. cond b (Some now) (get nat_cmp s.directories handle)) (ties handle handle refl))
+        get-with_entry s.listings d.node names d.node
+        ∙ ap (λ b. cond b (Some names) (get nat_cmp s.listings d.node)) (ties d.node d.node refl)
 
 module _ {M : Type 0} {Serves : M → Event → Reply → M → Type 0} where
   pub then-listed : {Y : Type 0} {w v : Work (List (List ℕ × ℕ))} {old new : Session M} (handle : ℕ) (r : Result Y RequestError)

@@ -52,19 +52,19 @@ pub(crate) fn open_directory<M: Machine>(session: &mut Session<M>, asked: Asked)
     let owner = cred.uid();
     let has_name = has_dentry(&session.server, ino);
     access_if(session, has_name, asked.cred, ino, Perms::from_digit(4))?;
-    take_directory(session, owner, ino)
+    take_directory(session, owner, asked.node)
 }
 
 // Where the user may open one more.
-fn take_directory<M: Machine>(session: &mut Session<M>, owner: u32, ino: u32) -> Replied
+fn take_directory<M: Machine>(session: &mut Session<M>, owner: u32, node: u64) -> Replied
     requires { 1 ≤ session.old.server.room }
-    ensures { Did M.Serves (take_directory owner ino) session.old session.new result }
+    ensures { Did M.Serves (take_directory owner node) session.old session.new result }
 {
     if !session.server.may_open_directory(owner) {
         return Err(RequestError::ENFILE);
     }
     let handle = session.server.next_directory();
-    session.server.add_directory(owner, ino);
+    session.server.add_directory(owner, node);
     Ok(opened_body(&session.server, handle))
 }
 
@@ -96,7 +96,7 @@ fn list_by_dentries<M: Machine>(session: &mut Session<M>, ino: u32) -> Tried<Lis
     }
 }
 
-/// The names of an open directory are those that it was listed with last. At the beginning it is listed anew.
+/// The names of an open directory are those that it was listed with last, through whichever handle. At the beginning it is listed anew.
 pub(crate) fn list_kept<M: Machine>(
     session: &mut Session<M>,
     node: u64,
@@ -110,28 +110,23 @@ pub(crate) fn list_kept<M: Machine>(
     let Some(open) = session.server.directory_of(extent.handle) else {
         return Err(RequestError::EBADF);
     };
-    if extent.offset != 0 && open.listing.is_some() {
+    let opened = open.node;
+    if extent.offset != 0 && session.server.listing_of(extent.handle).is_some() {
         return Ok(());
     }
-    let open_ino = open.ino;
-    list_now(session, node, extent.handle, open_ino)
+    list_now(session, node, extent.handle, opened)
 }
 
 // The names that are there now, in the directory of the node, if that is the one that is open.
-fn list_now<M: Machine>(
-    session: &mut Session<M>,
-    node: u64,
-    handle: u64,
-    open_ino: u32,
-) -> Tried<()>
+fn list_now<M: Machine>(session: &mut Session<M>, node: u64, handle: u64, opened: u64) -> Tried<()>
     requires known { IsSome (directory_of session.old.server.server handle) }
     requires room { 1 ≤ session.old.server.room }
-    ensures listed { OnOk result (Listed M.Serves (list_now node handle open_ino) session.old session.new handle) }
-    ensures failed { IfErr result (λ e. Did M.Serves (list_now node handle open_ino) session.old session.new (Err e)) }
+    ensures listed { OnOk result (Listed M.Serves (list_now node handle opened) session.old session.new handle) }
+    ensures failed { IfErr result (λ e. Did M.Serves (list_now node handle opened) session.old session.new (Err e)) }
     ensures room { session.old.server.room ≤ session.new.server.room + 1 }
 {
     let ino = session.the_number(node)?;
-    if ino != open_ino {
+    if node != opened {
         return Err(RequestError::ESTALE);
     }
     let names = list_by_dentries(session, ino)?;

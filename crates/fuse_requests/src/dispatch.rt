@@ -24,7 +24,7 @@ use fs_model::Path;
 use fuse_plans::{Asked, Replied, RequestError, Response};
 use fuse_protocol::{Extent, Operation, Piece};
 use fuse_sessions::Session;
-use fuse_sessions::listing::LEAST_RECORD;
+use fuse_sessions::listing::{LEAST_RECORD, bounded};
 use fuse_steps::Machine;
 use fuse_steps::acls::AclNames;
 use fuse_steps::flags::is_trunc;
@@ -322,8 +322,9 @@ fn perform_listing<M: Machine>(
         (Answered M.Serves (Replying (read_directory_plus asked.needs_nobody asked.node extent)) session.old session.new) }
     ensures stays { OnErr result (session.new ≡ session.old) }
 {
-    let count = extent.size / LEAST_RECORD;
-    let room = Vec::with_capacity(session.alloc, extent.size as usize)?;
+    let size = bounded(extent).size;
+    let count = size / LEAST_RECORD;
+    let room = Vec::with_capacity(session.alloc, size as usize)?;
     let names = NameRoom::new(session.alloc, count as usize)?;
     session.server.prepare_for(count)?;
     Ok(response_of(read_directory_plus(session, asked, extent, room, names)))

@@ -4,7 +4,7 @@ ghost use Rattle.fuse_protocol.specs.Entries.{record_size};
 ghost use Rattle.fuse_state.specs.Servers.{listing_of, named_at};
 ghost use Rattle.fuse_plans.specs.ListingOrder.{behind, offset_behind};
 ghost use Rattle.fuse_plans.specs.Works.{attempt};
-ghost use Rattle.fuse_plans.specs.ListingPlans.{find_in_place, find_listed, look_up_names, names_within, records_bytes, LookedUp, read_directory_plus};
+ghost use Rattle.fuse_plans.specs.ListingPlans.{bounded, find_in_place, find_listed, look_up_names, names_within, records_bytes, LookedUp, read_directory_plus};
 ghost use Rattle.fuse_sessions.specs.Listings.{IsCopy};
 ghost use Rattle.fuse_requests.specs.Listings.{HasListingRoom, ToldOne};
 ghost use Rattle.fuse_sessions.specs.Performing.{Did};
@@ -14,7 +14,7 @@ use fs_model::{Bytes, Path};
 use fuse_plans::{Asked, Replied, ReplyBody, RequestError, Tried};
 use fuse_protocol::Extent;
 use fuse_sessions::Session;
-use fuse_sessions::listing::{LEAST_RECORD, begin_behind, copy_fitting, named_at};
+use fuse_sessions::listing::{LEAST_RECORD, begin_behind, bounded, copy_fitting, named_at};
 use fuse_steps::Machine;
 use fuse_steps::cursor::Cursor;
 use fuse_steps::listing::push_looked_up;
@@ -32,6 +32,7 @@ fn find_in_place<M: Machine>(
     ensures did { Did M.Serves (find_in_place needs_nobody place name) session.old session.new result }
     ensures room { session.old.server.room ≤ session.new.server.room + 2 }
     ensures directories { session.new.server.server.directories ≡ session.old.server.server.directories }
+    ensures listings { session.new.server.server.listings ≡ session.old.server.server.listings }
 {
     plain_name(&name)?;
     let dir_ino = place?;
@@ -51,6 +52,7 @@ fn find_copy<M: Machine>(
         Did M.Serves (attempt (find_listed needs_nobody place name)) session.old session.new (Ok result) }
     ensures room { session.old.server.room ≤ session.new.server.room + 2 }
     ensures directories { session.new.server.server.directories ≡ session.old.server.server.directories }
+    ensures listings { session.new.server.server.listings ≡ session.old.server.server.listings }
 {
     match copy {
         Some(name) => find_in_place(session, needs_nobody, place, name),
@@ -88,6 +90,7 @@ fn tell_named<M: Machine>(
     ensures names { names.old ≤ names.new + 1 }
     ensures room { session.old.server.room ≤ session.new.server.room + 2 }
     ensures directories { session.new.server.server.directories ≡ session.old.server.server.directories }
+    ensures listings { session.new.server.server.listings ≡ session.old.server.server.listings }
 {
     let copy = copy_fitting(&session.server, extent, cursor.at, bytes.len(), names)?;
     let looked_up = find_copy(session, needs_nobody, place, copy);
@@ -131,7 +134,7 @@ fn look_up_names<M: Machine>(
     Bytes::new(bytes)
 }
 
-/// The entries of a directory, with what look-ups of their names tell, and with room for so many bytes and so many names.
+/// The entries of a directory, with what look-ups of their names tell: as many as are told at once, with room for these.
 pub(crate) fn read_directory_plus<M: Machine>(
     session: &mut Session<M>,
     asked: &Asked,
@@ -139,13 +142,14 @@ pub(crate) fn read_directory_plus<M: Machine>(
     room: Vec<u8>,
     names: NameRoom,
 ) -> Replied
-    requires fits { HasListingRoom extent.size room.items (vec_capacity room) names }
+    requires fits { HasListingRoom (bounded extent).size room.items (vec_capacity room) names }
     requires room { 2 * names + 1 ≤ session.old.server.room }
     ensures { let asked = asked.entry.now in
         Did M.Serves (read_directory_plus asked.needs_nobody asked.node extent) session.old session.new result }
 {
     let place = session.standing_directory(asked.node);
     list_kept(session, asked.node, extent)?;
-    let bytes = look_up_names(session, asked.needs_nobody, place, extent, room, names);
+    let told = bounded(extent);
+    let bytes = look_up_names(session, asked.needs_nobody, place, told, room, names);
     Ok(ReplyBody::Bytes(bytes))
 }

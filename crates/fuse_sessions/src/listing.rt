@@ -1,8 +1,10 @@
-//! Names of open directories, as they are looked up one after another: where they begin, and whether the record of one has room.
+//! Names of open directories, as they are looked up one after another: how much is told at once, where they begin, and whether the record
+//! of one has room.
 ghost use Rattle.std.specs.Prelude.{◌≡◌, ℕ, List, ◌+◌, ◌-◌, ◌*◌, ◌<◌, ◌≤◌, ◌^◌, length, drop, option_map, option_copied, nat_le, is_some, Some, IsSome, IfSome};
 ghost use Rattle.fuse_protocol.specs.Entries.{record_size};
 ghost use Rattle.fuse_state.specs.Servers.{listing_of, named_at};
 ghost use Rattle.fuse_plans.specs.ListingOrder.{behind, with_offsets};
+ghost use Rattle.fuse_plans.specs.ListingPlans.{bounded};
 ghost use Rattle.fuse_sessions.specs.Listings.{IsCopy};
 
 use fs_model::{Named, Path};
@@ -14,6 +16,19 @@ use fuse_steps::name_room::{LONGEST_NAME, NameRoom};
 
 /// A record has so many bytes at least.
 pub const LEAST_RECORD: u32 = 152;
+
+// So many bytes are told at once: one request looks up no more names than have room in them, since others wait for it.
+const MOST_LOOKED_UP: u32 = 16_384;
+
+/// As much of a directory as is told at once.
+pub fn bounded(extent: Extent) -> Extent
+    ensures { result ≡ bounded extent }
+{
+    Extent {
+        size: extent.size.min(MOST_LOOKED_UP),
+        ..extent
+    }
+}
 
 /// The name at a place of the listing that was made of an open directory.
 pub fn named_at(server: &Server, handle: u64, at: usize) -> Option<&Named>

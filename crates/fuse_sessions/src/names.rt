@@ -56,6 +56,7 @@ impl<M: Machine> Session<M> {
         ensures did { Did M.Serves (find_inside needs_nobody pid dir_ino name) self.old self.new result }
         ensures room { self.old.server.room ≤ self.new.server.room + 2 }
         ensures directories { self.new.server.server.directories ≡ self.old.server.server.directories }
+        ensures listings { self.new.server.server.listings ≡ self.old.server.server.listings }
     {
         let (seen, name) = look_inside(&mut self.machine, pid, dir_ino, name);
         match seen {
@@ -76,6 +77,7 @@ impl<M: Machine> Session<M> {
         ensures did { Did M.Serves (found_or_absent needs_nobody dir_ino name (Ok status)) self.old self.new result }
         ensures room { self.old.server.room ≤ self.new.server.room + 2 }
         ensures directories { self.new.server.server.directories ≡ self.old.server.server.directories }
+        ensures listings { self.new.server.server.listings ≡ self.old.server.server.listings }
     {
         let stamps = self.told_stamps(status.ino)?;
         self.server

@@ -170,6 +170,7 @@ module _ (s : Server) (node : ℕ) where
     at_root = refl;
     handles = refl;
     directories = refl;
+    listings = refl;
     times = refl;
     generations = refl;
   }
@@ -191,6 +192,7 @@ module _ (s : Server) (node : ℕ) where
     at_root = get-other s.kinds n root (λ same. not_root (sym same));
     handles = refl;
     directories = refl;
+    listings = refl;
     times = refl;
     generations = refl;
   }
@@ -225,6 +227,7 @@ others_spared s node count = go (left_of (lookups_of s node) count == 0)
       at_root = refl;
       handles = refl;
       directories = refl;
+      listings = refl;
       times = refl;
       generations = refl;
     }

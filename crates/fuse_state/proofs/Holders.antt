@@ -3,21 +3,22 @@
 --     begun_within, ended_within, handle_within, closed_within        processes and handles come and go
 --     begun_holders, ended_holders        whoever holds some, does then
 --     opened_within, released_within, listed_within        directories
-use Rattle.std.specs.Prelude.{◌≡◌, ◌≢◌, ℕ, ◌<◌, ◌≤◌, ◌==◌, nat_lt, suc, Bool, true, false, not, cond, List, [], ◌∷◌, map, length, Option, None, Some, refl}
+use Rattle.std.specs.Prelude.{◌≡◌, ◌≢◌, ℕ, ◌<◌, ◌≤◌, ◌==◌, nat_lt, suc, Bool, true, false, not, cond, List, [], ◌∷◌, map, length, Option, None, Some, unwrap_or, refl}
 use Rattle.std.proofs.Common.{sym, ap, subst, ◌∙◌, arith}
 use Rattle.std.specs.FinMap.Entries.{by_order}
 use Rattle.std.specs.List.{filter}
 use Rattle.std.proofs.lemmas.Cmp.{nat_cmp_total}
-use Rattle.std.specs.Ordering.{nat_cmp, is_eq, is_lt}
+use Rattle.std.specs.Ordering.{nat_cmp, is_eq}
 use Rattle.std.specs.declared.cmp.Ordering.{Ordering}
 use Rattle.std.specs.declared.cmp.Ordering.TheVariants.{Less, Equal, Greater}
+use Rattle.std.proofs.lemmas.Bool.{or_from, or_parts}
 use Rattle.std.proofs.lemmas.Bool.Decides.{nat_tests}
 use Rattle.fs_cred.specs.Credentials.{Credential}
 use Rattle.fs_layout.specs.Maps.{get, with_entry, without, IsMap}
-use Rattle.fs_layout.proofs.FirstEntries.{above, apart, left, right, lower, tied, ties}
+use Rattle.fs_layout.proofs.FirstEntries.{above, apart, left, right, tied, ties}
 use Rattle.fs_layout.proofs.MapLaws.{get-with_entry, with_entry-IsMap}
 use Rattle.fuse_state.specs.Shares.{count_of, process_shares, directory_shares, KeepsShares, OneMore}
-use Rattle.fuse_state.specs.Servers.{Server, holds_some, owner_of, process_holders, may_take_process, with_known_process, without_process, with_handle, without_handle, directory_of, directory_holders, may_open_directory, with_opened, with_listing, with_listing_of, without_directory, new_server, WithinShares}
+use Rattle.fuse_state.specs.Servers.{Server, holds_some, owner_of, process_holders, may_take_process, with_known_process, without_process, with_handle, without_handle, directory_of, directory_holders, may_open_directory, is_directory_open, with_opened, with_listing, listings_with, listings_left, without_directory, new_server, WithinShares}
 use Rattle.fuse_state.specs.declared.directory.OpenDirectory.{OpenDirectory}
 use Rattle.fuse_state.specs.declared.settings.Settings.{Settings}
 use Rattle.fuse_state.proofs.Edited.{without-IsMap}
@@ -79,6 +80,15 @@ module _ {X : Type 0} where
       go b true is later = absurd (let no : Some e.1 ≡ None = first_of_key e m q None none is in cc)
       go true false is later = later (rest_of e m q None none is)
       go false false is later = ap (λ b. cond b (Some e.1) (get nat_cmp (without nat_cmp m k) q)) is ∙ later (rest_of e m q None none is)
+
+  gone : (m : List (ℕ × X)) (k : ℕ) → get nat_cmp (without nat_cmp m k) k ≡ None
+  gone [] k = refl
+  gone (e ∷ m) k = go (is_eq (nat_cmp k e.0)) refl (gone m k)
+    where
+      go : (b : Bool) → is_eq (nat_cmp k e.0) ≡ b → get nat_cmp (without nat_cmp m k) k ≡ None
+          → get nat_cmp (cond (not b) (e ∷ without nat_cmp m k) (without nat_cmp m k)) k ≡ None
+      go true is later = later
+      go false is later = ap (λ b. cond b (Some e.1) (get nat_cmp (without nat_cmp m k) k)) is ∙ later
 
   -- who is there without another was there
   none_without : (m : List (ℕ × X)) (k q : ℕ) → q ≢ k → get nat_cmp (without nat_cmp m k) q ≡ None → get nat_cmp m q ≡ None
@@ -220,26 +230,6 @@ module _ {X : Type 0} where
             (subst (λ v. OneMore (user v) (users m) (users (e ∷ m))) value (one_first (user e.1) (users m)))
         go false is later = one_later (user x) (user e.1) _ _ (later (rest_of e m k (Some x) there is))
 
-    -- a value that is set anew for the same user
-    same_put : (k : ℕ) (x old : X) (m : List (ℕ × X)) → IsMap nat_cmp m → get nat_cmp m k ≡ Some old → user x ≡ user old
-        → users (with_entry nat_cmp m k x) ≡ users m
-    same_put k x old [] rising there same = absurd (let no : None ≡ Some old = there in cc)
-    same_put k x old (e ∷ m) rising there same = go (nat_cmp k e.0) refl (λ found. same_put k x old m (right _ _ rising) found same)
-      where
-        go : (o : Ordering) → nat_cmp k e.0 ≡ o → (get nat_cmp m k ≡ Some old → users (with_entry nat_cmp m k x) ≡ users m)
-            → users (by_order o ((k, x) ∷ e ∷ m) ((e.0, x) ∷ m) (e ∷ with_entry nat_cmp m k x)) ≡ users (e ∷ m)
-        go Less is later =
-            absurd (
-            let low : e.0 < k = above e.0 m (left _ _ rising) k old (rest_of e m k (Some old) there (ap is_eq is)) in
-            let less : k < e.0 = lower k e.0 (ap is_lt is) in
-            omega (arith, low, less)
-            )
-        go Equal is later =
-            let first : Some e.1 ≡ Some old = first_of_key e m k (Some old) there (ap is_eq is) in
-            let value : e.1 ≡ old = cc in
-            ap (λ u. u ∷ users m) (same ∙ ap user (sym value))
-        go Greater is later = ap (λ us. user e.1 ∷ us) (later (rest_of e m k (Some old) there (ap is_eq is)))
-
 -- ---- processes that hold some
 
 number_apart : (a b : ℕ) → a ≢ b → (a == b) ≡ false
@@ -294,17 +284,18 @@ new_within settings = record {
   directories_rising = refl;
   behind = λ handle le. refl;
   directories = none_keep directory_shares;
+  listings = λ node closed. refl;
 }
 
 -- all that counts
 abbrev pub Holding : Type 0
-Holding = List (ℕ × Credential) × List (ℕ × ℕ) × List (ℕ × OpenDirectory) × ℕ
+Holding = List (ℕ × Credential) × List (ℕ × ℕ) × List (ℕ × OpenDirectory) × ℕ × List (ℕ × List (List ℕ × ℕ))
 
 abbrev pub holding_of : Server → Holding
-holding_of s = (s.processes, s.handles, s.directories, s.next_directory)
+holding_of s = (s.processes, s.handles, s.directories, s.next_directory, s.listings)
 
 abbrev pub with_holding : Server → Holding → Server
-with_holding s k = record s { processes = k.0; handles = k.1; directories = k.2; next_directory = k.3 }
+with_holding s k = record s { processes = k.0; handles = k.1; directories = k.2; next_directory = k.3; listings = k.4 }
 
 pub same_within : (s t : Server) → holding_of t ≡ holding_of s → WithinShares s → WithinShares t
 same_within s t same w = record {
@@ -314,6 +305,7 @@ same_within s t same w = record {
   directories_rising = subst (λ m. IsMap nat_cmp m) (sym (ap (λ k. k.2) same)) w.directories_rising;
   behind = λ handle le. ap (λ k. get nat_cmp k.2 handle) same ∙ w.behind handle (subst (λ n. n ≤ handle) (ap (λ k. k.3) same) le);
   directories = subst (KeepsShares directory_shares) (sym (ap (λ k. directory_holders (with_holding t k)) same)) w.directories;
+  listings = λ node closed. ap (λ k. get nat_cmp k.4 node) same ∙ w.listings node (sym (ap (λ k. is_directory_open k.2 node) same) ∙ closed);
 }
 
 -- ---- processes come and go
@@ -338,6 +330,7 @@ begun_within s pid cred new w = record {
   directories_rising = w.directories_rising;
   behind = w.behind;
   directories = w.directories;
+  listings = w.listings;
 }
 
 pub ended_holders : (s : Server) (pid : ℕ) → holds_some s pid ≡ false → process_holders (without_process pid s) ≡ process_holders s
@@ -359,6 +352,7 @@ ended_within s pid idle w = record {
   directories_rising = w.directories_rising;
   behind = w.behind;
   directories = w.directories;
+  listings = w.listings;
 }
 
 -- ---- handles come and go
@@ -383,6 +377,7 @@ handle_within s handle n pid cred owner there may w = record {
   directories_rising = w.directories_rising;
   behind = w.behind;
   directories = w.directories;
+  listings = w.listings;
 }
   where
     elsewhere : (q : ℕ) → q ≢ pid → holds_some s q ≡ holds_some (with_handle handle n s) q
@@ -408,6 +403,7 @@ closed_within s handle w = record {
   directories_rising = w.directories_rising;
   behind = w.behind;
   directories = w.directories;
+  listings = w.listings;
 }
   where
     pid : ℕ
@@ -436,9 +432,23 @@ closed_within s handle w = record {
 
 -- ---- directories
 
+-- where one more is opened, each directory that isn't open then wasn't before
+not_open_before : (m : List (ℕ × OpenDirectory)) (handle : ℕ) (d : OpenDirectory) (node : ℕ) → get nat_cmp m handle ≡ None
+    → is_directory_open (with_entry nat_cmp m handle d) node ≡ false → is_directory_open m node ≡ false
+not_open_before [] handle d node new closed = refl
+not_open_before (e ∷ m) handle d node new closed = go (nat_cmp handle e.0) refl closed (not_open_before m handle d node)
+  where
+    go : (o : Ordering) → nat_cmp handle e.0 ≡ o → is_directory_open (by_order o ((handle, d) ∷ e ∷ m) ((e.0, d) ∷ m) (e ∷ with_entry nat_cmp m handle d)) node ≡ false
+        → (get nat_cmp m handle ≡ None → is_directory_open (with_entry nat_cmp m handle d) node ≡ false → is_directory_open m node ≡ false) → is_directory_open (e ∷ m) node ≡ false
+    go Less is none later = (or_parts (d.node == node) (is_directory_open (e ∷ m) node) none).1
+    go Equal is none later = absurd (let no : Some e.1 ≡ None = first_of_key e m handle None new (ap is_eq is) in cc)
+    go Greater is none later =
+        let parts = or_parts (e.1.node == node) (is_directory_open (with_entry nat_cmp m handle d) node) none in
+        or_from (e.1.node == node) (is_directory_open m node) parts.0 (later (rest_of e m handle None new (ap is_eq is)) parts.1)
+
 -- a user opens one
-pub opened_within : (s : Server) (uid n : ℕ) → may_open_directory s uid ≡ true → WithinShares s → WithinShares (with_opened uid n s)
-opened_within s uid n may w = record {
+pub opened_within : (s : Server) (uid node : ℕ) → may_open_directory s uid ≡ true → WithinShares s → WithinShares (with_opened uid node s)
+opened_within s uid node may w = record {
   rising = w.rising;
   known = w.known;
   processes = w.processes;
@@ -448,13 +458,45 @@ opened_within s uid n may w = record {
       ∙ ap (λ b. cond b (Some new) (get nat_cmp s.directories handle)) (apart handle s.next_directory (λ same. omega (arith, le, same)))
       ∙ w.behind handle (omega (arith, le));
   directories =
-      more_keep directory_shares uid (directory_holders s) (directory_holders (with_opened uid n s))
+      more_keep directory_shares uid (directory_holders s) (directory_holders (with_opened uid node s))
       (one_put (λ d. d.owner) s.next_directory new s.directories (w.behind s.next_directory (omega arith)))
       w.directories may;
+  listings = λ other closed. w.listings other (not_open_before s.directories s.next_directory new other (w.behind s.next_directory (omega arith)) closed);
 }
   where
     new : OpenDirectory
-    new = record { ino = n; owner = uid; listing = None }
+    new = record { node = node; owner = uid }
+
+-- where one is closed, no other one is
+still_open : (m : List (ℕ × OpenDirectory)) (handle : ℕ) (d : OpenDirectory) (node : ℕ) → IsMap nat_cmp m → get nat_cmp m handle ≡ Some d → node ≢ d.node
+    → is_directory_open (without nat_cmp m handle) node ≡ false → is_directory_open m node ≡ false
+still_open [] handle d node rising there other closed = refl
+still_open (e ∷ m) handle d node rising there other closed = go (is_eq (nat_cmp handle e.0)) refl closed (still_open m handle d node)
+  where
+    go : (b : Bool) → is_eq (nat_cmp handle e.0) ≡ b → is_directory_open (cond (not b) (e ∷ without nat_cmp m handle) (without nat_cmp m handle)) node ≡ false
+        → (IsMap nat_cmp m → get nat_cmp m handle ≡ Some d → node ≢ d.node → is_directory_open (without nat_cmp m handle) node ≡ false → is_directory_open m node ≡ false)
+        → is_directory_open (e ∷ m) node ≡ false
+    go true is none later =
+        let same : e.1 ≡ d = ap (λ o. unwrap_or o d) (first_of_key e m handle (Some d) there is) in
+        let all : without nat_cmp m handle ≡ m = without_none m handle (lacks_rest e m handle rising (tied handle e.0 is)) in
+        or_from (e.1.node == node) (is_directory_open m node) (number_apart e.1.node node (λ is_same. other (sym is_same ∙ ap (λ (o : OpenDirectory). o.node) same)))
+        (sym (ap (λ l. is_directory_open l node) all) ∙ none)
+    go false is none later =
+        let parts = or_parts (e.1.node == node) (is_directory_open (without nat_cmp m handle) node) none in
+        or_from (e.1.node == node) (is_directory_open m node) parts.0 (later (right _ _ rising) (rest_of e m handle (Some d) there is) other parts.1)
+
+open_there : (m : List (ℕ × OpenDirectory)) (handle : ℕ) (d : OpenDirectory) → get nat_cmp m handle ≡ Some d → is_directory_open m d.node ≡ false → ⊥
+open_there [] handle d there closed = let no : None ≡ Some d = there in cc
+open_there (e ∷ m) handle d there closed = go (is_eq (nat_cmp handle e.0)) refl (open_there m handle d)
+  where
+    parts : ((e.1.node == d.node) ≡ false) × (is_directory_open m d.node ≡ false)
+    parts = or_parts (e.1.node == d.node) (is_directory_open m d.node) closed
+
+    go : (b : Bool) → is_eq (nat_cmp handle e.0) ≡ b → (get nat_cmp m handle ≡ Some d → is_directory_open m d.node ≡ false → ⊥) → ⊥
+    go true is later =
+        let same : e.1 ≡ d = ap (λ o. unwrap_or o d) (first_of_key e m handle (Some d) there is) in
+        let no : true ≡ false = sym (number_same d.node d.node refl) ∙ ap (λ (o : OpenDirectory). o.node == d.node) (sym same) ∙ parts.0 in cc
+    go false is later = later (rest_of e m handle (Some d) there is) parts.1
 
 pub released_within : (s : Server) (handle : ℕ) → WithinShares s → WithinShares (without_directory handle s)
 released_within s handle w = record {
@@ -464,33 +506,52 @@ released_within s handle w = record {
   directories_rising = without-IsMap nat_cmp_total s.directories handle w.directories_rising;
   behind = λ h le. still_none s.directories handle h (w.behind h le);
   directories = choose (get nat_cmp s.directories handle) refl;
+  listings = λ node closed. unlisted node closed (get nat_cmp s.directories handle) refl;
 }
   where
+    left_open : List (ℕ × OpenDirectory)
+    left_open = without nat_cmp s.directories handle
+
     choose : (o : Option OpenDirectory) → get nat_cmp s.directories handle ≡ o → KeepsShares directory_shares (directory_holders (without_directory handle s))
     choose None none = subst (λ m. KeepsShares directory_shares (map (λ e. e.1.owner) m)) (sym (without_none s.directories handle none)) w.directories
     choose (Some d) there =
         fewer_keep directory_shares d.owner (directory_holders (without_directory handle s)) (directory_holders s)
         (one_taken (λ o. o.owner) handle d s.directories w.directories_rising there) w.directories
 
+    of_one : (node : ℕ) → is_directory_open left_open node ≡ false → (d : OpenDirectory) → get nat_cmp s.directories handle ≡ Some d
+        → (b : Bool) → is_directory_open left_open d.node ≡ b → get nat_cmp (cond b s.listings (without nat_cmp s.listings d.node)) node ≡ None
+    of_one node closed d there true still =
+        w.listings node (still_open s.directories handle d node w.directories_rising there
+        (λ same. let no : true ≡ false = sym still ∙ ap (is_directory_open left_open) (sym same) ∙ closed in cc) closed)
+    of_one node closed d there false none =
+        same_or_other node d.node
+        (λ same. ap (get nat_cmp (without nat_cmp s.listings d.node)) same ∙ gone s.listings d.node)
+        (λ other. still_none s.listings d.node node (w.listings node (still_open s.directories handle d node w.directories_rising there other closed)))
+
+    unlisted : (node : ℕ) → is_directory_open left_open node ≡ false → (o : Option OpenDirectory) → get nat_cmp s.directories handle ≡ o
+        → get nat_cmp (listings_left left_open s.listings o) node ≡ None
+    unlisted node closed None none = w.listings node (sym (ap (λ m. is_directory_open m node) (without_none s.directories handle none)) ∙ closed)
+    unlisted node closed (Some d) there = of_one node closed d there (is_directory_open left_open d.node) refl
+
 pub listed_within : (s : Server) (handle : ℕ) (names : List (List ℕ × ℕ)) → WithinShares s → WithinShares (with_listing handle names s)
-listed_within s handle names w = choose (directory_of s handle) refl
+listed_within s handle names w = record {
+  rising = w.rising;
+  known = w.known;
+  processes = w.processes;
+  directories_rising = w.directories_rising;
+  behind = w.behind;
+  directories = w.directories;
+  listings = λ node closed. choose node closed (directory_of s handle) refl;
+}
   where
-    choose : (o : Option OpenDirectory) → directory_of s handle ≡ o → WithinShares (with_listing_of handle names o s)
-    choose None none = w
-    choose (Some d) there = record {
-      rising = w.rising;
-      known = w.known;
-      processes = w.processes;
-      directories_rising = with_entry-IsMap s.directories handle new w.directories_rising;
-      behind = λ h le.
-          get-with_entry s.directories handle new h
-          ∙ ap (λ b. cond b (Some new) (get nat_cmp s.directories h)) (apart h handle (λ same. let no : None ≡ Some d = sym (w.behind h le) ∙ ap (directory_of s) same ∙ there in cc))
-          ∙ w.behind h le;
-      directories = subst (KeepsShares directory_shares) (sym (same_put (λ o. o.owner) handle new d s.directories w.directories_rising there refl)) w.directories;
-    }
-      where
-        new : OpenDirectory
-        new = record d { listing = Some names }
+    choose : (node : ℕ) → is_directory_open s.directories node ≡ false → (o : Option OpenDirectory) → directory_of s handle ≡ o
+        → get nat_cmp (listings_with s.listings o names) node ≡ None
+    choose node closed None none = w.listings node closed
+    choose node closed (Some d) there =
+        get-with_entry s.listings d.node names node
+        ∙ ap (λ b. cond b (Some names) (get nat_cmp s.listings node))
+        (apart node d.node (λ same. open_there s.directories handle d there (sym (ap (is_directory_open s.directories) same) ∙ closed)))
+        ∙ w.listings node closed
 
 -- ---- how many
 

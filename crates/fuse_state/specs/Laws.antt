@@ -135,6 +135,7 @@ pub record Spares (s t : Server) (node : ℕ) : Type 0 where
   pub at_root : kind_known t root ≡ kind_known s root
   pub handles : t.handles ≡ s.handles
   pub directories : t.directories ≡ s.directories
+  pub listings : t.listings ≡ s.listings
   pub times : t.times ≡ s.times
   pub generations : t.generations ≡ s.generations
 

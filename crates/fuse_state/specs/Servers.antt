@@ -10,12 +10,12 @@
 --     owner_of, descriptor_of, handle_of        a handle is a process and one of its descriptors
 --     process_holders, directory_holders        whose processes hold descriptors, and who has opened directories
 --     may_take_process, may_open_directory        whether a user may hold one more
---     with_opened, with_listing, without_directory        open directories
+--     with_opened, with_listing, without_directory        open directories, and one listing of each
 --     WithinShares        none holds more than it may
 use Rattle.std.specs.Prelude.{◌≡◌, ℕ, ◌+◌, ◌-◌, ◌*◌, min, ◌/◌, ◌%◌, ◌^◌, ◌==◌, ◌≤◌, nat_eq, nat_lt, nat_le, Bool, true, false, not, ◌&&◌, List, [], ◌∷◌, length, map, Option, None, Some, is_some, unwrap_or, option_and_then, slice_get, if◌then◌else◌}
 use Rattle.std.specs.declared.cmp.Ordering.{Ordering}
 use Rattle.std.specs.Ordering.{nat_cmp, ordering_then}
-use Rattle.std.specs.List.{filter}
+use Rattle.std.specs.List.{filter, list_any}
 use Rattle.std.specs.Cmp.Lexicographic.{pointwise}
 use Rattle.fs_cred.specs.Credentials.{Credential}
 use Rattle.fs_layout.specs.Maps.{get, with_entry, without, IsMap, name_cmp}
@@ -47,6 +47,8 @@ pub record Server : Type 0 where
   -- open files, and open directories
   pub handles : List (ℕ × ℕ)
   pub directories : List (ℕ × OpenDirectory)
+  -- of the directories that are open, by their nodes, the listings that were made last
+  pub listings : List (ℕ × List (List ℕ × ℕ))
   pub next_directory : ℕ
   pub ended : Bool
 
@@ -67,6 +69,7 @@ new_server settings = record {
   server_process = None;
   handles = [];
   directories = [];
+  listings = [];
   next_directory = first_directory;
   ended = false;
 }
@@ -315,40 +318,57 @@ may_open_directory s uid = may_hold directory_shares (directory_holders s) uid
 abbrev pub directory_of : Server → ℕ → Option OpenDirectory
 directory_of s handle = get nat_cmp s.directories handle
 
-abbrev pub listing_in : Option OpenDirectory → Option (List (List ℕ × ℕ))
-listing_in None = None
-listing_in (Some d) = d.listing
+-- the directory of a node is open
+abbrev pub is_directory_open : List (ℕ × OpenDirectory) → ℕ → Bool
+is_directory_open directories node = list_any (λ e. e.1.node == node) directories
 
--- the listing that was made of it last
+abbrev pub listing_in : List (ℕ × List (List ℕ × ℕ)) → Option OpenDirectory → Option (List (List ℕ × ℕ))
+listing_in listings None = None
+listing_in listings (Some d) = get nat_cmp listings d.node
+
+-- the listing that was made last of the directory that is open there, through whichever handle
 abbrev pub listing_of : Server → ℕ → Option (List (List ℕ × ℕ))
-listing_of s handle = listing_in (directory_of s handle)
+listing_of s handle = listing_in s.listings (directory_of s handle)
 
 -- a name of it, with its inode, counted from 0
 abbrev pub named_at : Server → ℕ → ℕ → Option (List ℕ × ℕ)
 named_at s handle at = option_and_then (λ names. slice_get names at) (listing_of s handle)
 
-abbrev pub with_directory : ℕ → OpenDirectory → Server → Server
-with_directory handle d s = record s { directories = with_entry nat_cmp s.directories handle d }
-
--- a user opens it
+-- a user opens the directory of a node
 abbrev pub with_opened : ℕ → ℕ → Server → Server
-with_opened uid n s =
-    record (with_directory s.next_directory (record { ino = n; owner = uid; listing = None }) s) { next_directory = s.next_directory + 1 }
+with_opened uid node s = record s {
+  directories = with_entry nat_cmp s.directories s.next_directory (record { node = node; owner = uid });
+  next_directory = s.next_directory + 1;
+}
 
-abbrev pub with_listing_of : ℕ → List (List ℕ × ℕ) → Option OpenDirectory → Server → Server
-with_listing_of handle names None s = s
-with_listing_of handle names (Some d) s = with_directory handle (record d { listing = Some names }) s
+-- in place of the one before
+abbrev pub listings_with : List (ℕ × List (List ℕ × ℕ)) → Option OpenDirectory → List (List ℕ × ℕ) → List (ℕ × List (List ℕ × ℕ))
+listings_with listings None names = listings
+listings_with listings (Some d) names = with_entry nat_cmp listings d.node names
 
--- what is open there was listed
+-- the directory that is open there was listed
 abbrev pub with_listing : ℕ → List (List ℕ × ℕ) → Server → Server
-with_listing handle names s = with_listing_of handle names (directory_of s handle) s
+with_listing handle names s = record s { listings = listings_with s.listings (directory_of s handle) names }
 
+-- nobody goes on in the listing of a directory that isn't open
+abbrev pub listings_while_open : List (ℕ × OpenDirectory) → List (ℕ × List (List ℕ × ℕ)) → ℕ → List (ℕ × List (List ℕ × ℕ))
+listings_while_open directories listings node = if is_directory_open directories node then listings else without nat_cmp listings node
+
+-- where these stay open, and this one is closed
+abbrev pub listings_left : List (ℕ × OpenDirectory) → List (ℕ × List (List ℕ × ℕ)) → Option OpenDirectory → List (ℕ × List (List ℕ × ℕ))
+listings_left directories listings None = listings
+listings_left directories listings (Some d) = listings_while_open directories listings d.node
+
+-- its listing goes with its last opening
 abbrev pub without_directory : ℕ → Server → Server
-without_directory handle s = record s { directories = without nat_cmp s.directories handle }
+without_directory handle s =
+    let left = without nat_cmp s.directories handle in
+    record s { directories = left; listings = listings_left left s.listings (directory_of s handle) }
 
 -- ---- shares
 
--- None holds more processes or directories than it may; who holds a descriptor is known; and the next handle of a directory is free.
+-- None holds more processes or directories than it may; who holds a descriptor is known; the next handle of a directory is free; and
+-- listings are kept of open directories alone.
 pub record WithinShares (s : Server) : Type 0 where
   pub rising : IsMap nat_cmp s.processes
   pub known : (pid : ℕ) → get nat_cmp s.processes pid ≡ None → holds_some s pid ≡ false
@@ -356,6 +376,7 @@ pub record WithinShares (s : Server) : Type 0 where
   pub directories_rising : IsMap nat_cmp s.directories
   pub behind : (handle : ℕ) → s.next_directory ≤ handle → directory_of s handle ≡ None
   pub directories : KeepsShares directory_shares (directory_holders s)
+  pub listings : (node : ℕ) → is_directory_open s.directories node ≡ false → get nat_cmp s.listings node ≡ None
 
 -- ---- the end
 

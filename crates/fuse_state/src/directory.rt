@@ -1,14 +1,10 @@
 //! Open directories.
 
-use fs_model::Listing;
-
 /// An open directory.
-#[derive(Drop)]
+#[derive(Clone, Copy)]
 pub struct OpenDirectory {
-    /// The number of its inode.
-    pub ino: u32,
+    /// Its node. The number of its inode comes again for another directory, once it is removed.
+    pub node: u64,
     /// The user who opened it.
     pub owner: u32,
-    /// The listing that was made of it last.
-    pub listing: Option<Listing>,
 }

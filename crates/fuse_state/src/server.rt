@@ -19,7 +19,7 @@ use crate::table::Table;
 use crate::times::Times;
 use fs_cred::Cred;
 use fs_layout::ROOT;
-use fs_model::FileType;
+use fs_model::{FileType, Listing};
 use std::alloc::{AllocError, Global};
 use std::marker::Model;
 
@@ -45,6 +45,7 @@ pub struct Server {
     server_process: Option<usize>,
     handles: Table<u32>,
     directories: Table<OpenDirectory>,
+    listings: HashTable<Listing>,
     next_directory: u64,
     ended: bool,
     room: usize,
@@ -67,13 +68,14 @@ impl Model for Server {
         server_process = s.server_process;
         handles = s.handles.0;
         directories = s.directories.0;
+        listings = s.listings.0;
         next_directory = s.next_directory;
         ended = s.ended;
       };
       room = s.room;
     } };
 
-    ghost invariant = { λ s. HasTableRoom s.room s.generations.1 s.kinds.1 s.lookups.1 s.names.1 s.times.1 s.processes.1 s.handles.1 s.directories.1 s.next_directory };
+    ghost invariant = { λ s. HasTableRoom s.room s.generations.1 s.kinds.1 s.lookups.1 s.names.1 s.times.1 s.processes.1 s.handles.1 s.directories.1 s.listings.1 s.next_directory };
 }
 
 impl Server {
@@ -95,6 +97,7 @@ impl Server {
             server_process: None,
             handles: Table::new(alloc),
             directories: Table::new(alloc),
+            listings: HashTable::new(alloc),
             next_directory: FIRST_DIRECTORY,
             ended: false,
             room: 0,
@@ -115,6 +118,7 @@ impl Server {
         self.processes.reserve(room)?;
         self.handles.reserve(room)?;
         self.directories.reserve(room)?;
+        self.listings.reserve(room)?;
         if self.next_directory >= u64::MAX - room as u64 {
             return Err(AllocError);
         }

@@ -120,9 +120,9 @@ module _ (node handle : ℕ) (d : OpenDirectory) where
       → anew ≡ false → known ≡ Some names → listed node handle d anew known ≡ give names
   listed-before {anew} {known} {names} is there = ap (λ (b : Bool). listed node handle d b known) is ∙ ap (listed node handle d false) there
 
-  pub listed-anew : {anew : Bool} (known : Option (List (List ℕ × ℕ))) → anew ≡ true → listed node handle d anew known ≡ list_now node handle d.ino
+  pub listed-anew : {anew : Bool} (known : Option (List (List ℕ × ℕ))) → anew ≡ true → listed node handle d anew known ≡ list_now node handle d.node
   listed-anew {anew} known is = ap (λ (b : Bool). listed node handle d b known) is
 
-  pub listed-first : (anew : Bool) {known : Option (List (List ℕ × ℕ))} → known ≡ None → listed node handle d anew known ≡ list_now node handle d.ino
+  pub listed-first : (anew : Bool) {known : Option (List (List ℕ × ℕ))} → known ≡ None → listed node handle d anew known ≡ list_now node handle d.node
   listed-first true {known} is = refl
   listed-first false {known} is = ap (listed node handle d false) is

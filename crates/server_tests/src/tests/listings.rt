@@ -1,4 +1,4 @@
-//! READDIRPLUS at a machine that is played: which nodes are told, and when they are forgotten.
+//! READDIRPLUS at a machine that is played: which nodes are told, and when they are forgotten; and how large directories go on.
 
 use crate::tests::sessions::{Played, Player, agree, answer_in, started};
 use fs_cred::CredFault;
@@ -7,8 +7,8 @@ use fuse_plans::{ReplyBody, Response};
 use fuse_protocol::{Extent, Operation};
 use fuse_sessions::Session;
 use std::alloc::{AllocError, Global};
-use std::mem;
 use std::test::Fail;
+use std::{mem, str};
 
 // A machine whose root has two files: `a` is inode 5, and `b` inode 6. It lists them in the other order.
 #[derive(Drop)]
@@ -43,8 +43,7 @@ fn led_to(name: &[u8]) -> (u32, FileType) {
     }
 }
 
-fn status_of(name: &[u8]) -> Status {
-    let (ino, kind) = led_to(name);
+fn status_of(ino: u32, kind: FileType) -> Status {
     Status {
         ino,
         kind,
@@ -60,7 +59,10 @@ impl Player for Root {
     fn reply_to(&mut self, call: &Call) -> Reply {
         match call {
             Call::Open(..) => Reply::Fd(0),
-            Call::Lstat(path) => Reply::Shown(status_of(path.bytes())),
+            Call::Lstat(path) => {
+                let (ino, kind) = led_to(path.bytes());
+                Reply::Shown(status_of(ino, kind))
+            }
             Call::Readdir(_) => Reply::Names(names(self.alloc)),
             _ => Reply::Done,
         }
@@ -192,5 +194,156 @@ fn first_other(
 fn told_nodes_are_counted(rt: HostRuntime) -> Result<(), Fail> {
     let other = first_other(rt.alloc(), &ROWS)?;
     assert!(rt; other == None, "{other:?}");
+    Ok(())
+}
+
+// ---- large directories
+
+// A machine whose root has 300 files: their inodes are 100 to 399, and so are their names.
+#[derive(Drop)]
+struct Large {
+    alloc: Global,
+}
+
+// The number that a name says; 1, that of the root, where it says none.
+fn number_in(name: &[u8]) -> u32 {
+    match str::from_utf8(name) {
+        Ok(text) => text.parse::<u32>().unwrap_or(1),
+        Err(_) => 1,
+    }
+}
+
+fn push_files(alloc: Global, names: &mut Vec<Named>) -> Result<(), AllocError> {
+    for ino in 100..400 {
+        let name = format!(in alloc; "{ino}")?;
+        names.push(named(alloc, name.as_bytes(), ino)?)?;
+    }
+    Ok(())
+}
+
+// The files; with less memory fewer.
+fn files(alloc: Global) -> Listing {
+    let mut names = Vec::new(alloc);
+    let _pushed = push_files(alloc, &mut names);
+    Listing::new(names)
+}
+
+impl Player for Large {
+    fn reply_to(&mut self, call: &Call) -> Reply {
+        match call {
+            Call::Open(..) => Reply::Fd(0),
+            Call::Lstat(path) => match number_in(path.bytes()) {
+                1 => Reply::Shown(status_of(1, FileType::Directory)),
+                ino => Reply::Shown(status_of(ino, FileType::File)),
+            },
+            Call::Readdir(_) => Reply::Names(files(self.alloc)),
+            _ => Reply::Done,
+        }
+    }
+}
+
+// What requests have told so far.
+#[derive(Clone, Copy)]
+struct Tally {
+    requests: usize,
+    // The most names of one request.
+    most: usize,
+    // The offset behind the last name.
+    offset: u64,
+    // How often each number was told as a name.
+    told: [u8; 400],
+}
+
+// The record of a name of three letters has so many bytes.
+const RECORD: usize = 160;
+
+// The offset in a record: eight bytes, the least significant first.
+fn offset_in(record: &[u8]) -> u64 {
+    let mut offset = 0;
+    for at in 0..8 {
+        let byte = record.get(143 - at).copied().unwrap_or(0);
+        offset = offset << 8 | u64::from(byte);
+    }
+    offset
+}
+
+fn add_record(tally: &mut Tally, record: &[u8]) {
+    tally.offset = offset_in(record);
+    let number = number_in(record.get(152..155).unwrap_or(b""));
+    if let Some(told) = tally.told.get_mut(number as usize) {
+        *told = told.saturating_add(1);
+    }
+}
+
+// Adds what a response tells, and says whether that is something.
+fn add_response(tally: &mut Tally, response: Response) -> bool {
+    let Response::Says(ReplyBody::Bytes(bytes)) = response else {
+        return false;
+    };
+    let names = bytes.bytes().len() / RECORD;
+    for record in bytes.bytes().chunks_exact(RECORD) {
+        add_record(tally, record);
+    }
+    tally.requests = tally.requests.saturating_add(1);
+    tally.most = tally.most.max(names);
+    names > 0
+}
+
+// How many requests list the root with room for so many bytes, how many names the largest of them tells, and how many names are told once.
+type Course = (usize, usize, usize);
+
+fn list_root(
+    session: &mut Session<Played<Large>>,
+    alloc: Global,
+    size: u32,
+) -> Result<Course, CredFault> {
+    let mut tally = Tally {
+        requests: 0,
+        most: 0,
+        offset: 0,
+        told: [0; 400],
+    };
+    for _request in 0..64 {
+        let (node, operation) = asked_by(Step::Listed(tally.offset, size));
+        let response = answer_in(session, alloc, node, true, (0, 0), &operation)?;
+        if !add_response(&mut tally, response) {
+            break;
+        }
+    }
+    let once = tally.told.iter().filter(|told| **told == 1).count();
+    Ok((tally.requests, tally.most, once))
+}
+
+fn open_root(session: &mut Session<Played<Large>>, alloc: Global) -> Result<(), CredFault> {
+    agree(session, alloc)?;
+    let (node, operation) = asked_by(Step::Opened);
+    let response = answer_in(session, alloc, node, true, (0, 0), &operation)?;
+    mem::drop(response);
+    Ok(())
+}
+
+fn course_of(alloc: Global, size: u32) -> Result<Course, CredFault> {
+    let mut session = started(alloc, Large { alloc }, false)?;
+    let opened = open_root(&mut session, alloc);
+    let course = list_root(&mut session, alloc, size);
+    mem::drop(session);
+    opened?;
+    course
+}
+
+// However much the kernel has room for, one request tells at most 16 KiB: 102 names here. The last request tells none.
+static COURSES: [(u32, Course); 4] = [
+    (4_096, (13, 25, 300)),
+    (16_383, (4, 102, 300)),
+    (16_384, (4, 102, 300)),
+    (1_048_576, (4, 102, 300)),
+];
+
+#[test]
+fn large_directories_go_on(rt: HostRuntime) -> Result<(), Fail> {
+    for (size, wanted) in &COURSES {
+        let seen = course_of(rt.alloc(), *size)?;
+        assert!(rt; seen == *wanted, "{size}: {seen:?}");
+    }
     Ok(())
 }

@@ -1,7 +1,7 @@
 //! What no clause says: which processes and handles there are after which changes, and how many there may be.
 use crate::tests::state::{Row, first_other, number};
 use fs_cred::Cred;
-use fs_model::Listing;
+use fs_model::{Listing, Name, Named};
 use fuse_state::{Server, descriptor_of, handle_of, owner_of};
 use std::alloc::{AllocError, Global};
 use std::test::Fail;
@@ -24,8 +24,11 @@ enum Use {
     Object(u32, u32),
     HandleFor(u32),
     // So many times a user opens a directory: the last handle.
-    OpensDirectory(u32, u32, u32),
-    ListsDirectory(u64),
+    OpensDirectory(u32, u32, u64),
+    // It is listed, and has so many names.
+    ListsDirectory(u64, u32),
+    // How many names its listing has, and one more; 0 where it has none.
+    Listed(u64),
     ClosesDirectory(u64),
     DirectoryAt(u64),
     // Whose directory it is.
@@ -94,20 +97,46 @@ fn asked(server: &Server, alloc: Global, step: Use, uid: u32) -> Result<u64, All
     })
 }
 
-fn opens_directory(server: &mut Server, uid: u32, count: u32, ino: u32) -> Result<u64, AllocError> {
+fn opens_directory(
+    server: &mut Server,
+    uid: u32,
+    count: u32,
+    node: u64,
+) -> Result<u64, AllocError> {
     let mut handle = 0;
     for _ in 0..count {
         server.prepare()?;
         handle = server.next_directory();
-        server.add_directory(uid, ino);
+        server.add_directory(uid, node);
     }
     Ok(handle)
 }
 
-fn lists_directory(server: &mut Server, alloc: Global, handle: u64) -> Result<u64, AllocError> {
+fn names(alloc: Global, count: u32) -> Result<Listing, AllocError> {
+    let mut names = Vec::new(alloc);
+    for ino in 0..count {
+        let name = Name::from_slice(alloc, b"n")?;
+        names.push(Named { name, ino })?;
+    }
+    Ok(Listing::new(names))
+}
+
+fn lists_directory(
+    server: &mut Server,
+    alloc: Global,
+    handle: u64,
+    count: u32,
+) -> Result<u64, AllocError> {
     server.prepare()?;
-    server.set_listing(handle, Listing::new(Vec::new(alloc)));
+    server.set_listing(handle, names(alloc, count)?);
     Ok(0)
+}
+
+fn listed(server: &Server, handle: u64) -> u64 {
+    match server.listing_of(handle) {
+        Some(listing) => (listing.names().len() as u64).saturating_add(1),
+        None => 0,
+    }
 }
 
 fn owner_at(server: &Server, handle: u64) -> u64 {
@@ -124,7 +153,7 @@ fn closes_directory(server: &mut Server, handle: u64) -> Result<u64, AllocError>
 
 fn directory_at(server: &Server, handle: u64) -> u64 {
     match server.directory_of(handle) {
-        Some(directory) => u64::from(directory.ino),
+        Some(directory) => directory.node,
         None => 0,
     }
 }
@@ -162,8 +191,9 @@ impl Row for Use {
                 fd as usize,
             )))),
             Use::HandleFor(ino) => Ok(server.handle_for(ino).unwrap_or(0)),
-            Use::OpensDirectory(uid, count, ino) => opens_directory(server, uid, count, ino),
-            Use::ListsDirectory(handle) => lists_directory(server, alloc, handle),
+            Use::OpensDirectory(uid, count, node) => opens_directory(server, uid, count, node),
+            Use::ListsDirectory(handle, count) => lists_directory(server, alloc, handle, count),
+            Use::Listed(handle) => Ok(listed(server, handle)),
             Use::ClosesDirectory(handle) => closes_directory(server, handle),
             Use::DirectoryAt(handle) => Ok(directory_at(server, handle)),
             Use::OwnerAt(handle) => Ok(owner_at(server, handle)),
@@ -248,12 +278,12 @@ static DIRECTORIES: [(Use, u64); 27] = [
     (Use::OpensDirectory(1001, 1, 6), 4_294_967_297),
     (Use::DirectoryAt(4_294_967_296), 5),
     (Use::DirectoryAt(4_294_967_297), 6),
-    (Use::ListsDirectory(4_294_967_297), 0),
+    (Use::ListsDirectory(4_294_967_297, 1), 0),
     (Use::DirectoryAt(4_294_967_297), 6),
     (Use::OwnerAt(4_294_967_297), 1001),
     (Use::ClosesDirectory(4_294_967_296), 0),
     (Use::DirectoryAt(4_294_967_296), 0),
-    (Use::ListsDirectory(4_294_967_296), 0),
+    (Use::ListsDirectory(4_294_967_296, 1), 0),
     (Use::DirectoryAt(4_294_967_296), 0),
     (Use::OpensDirectory(1001, 126, 8), 4_294_967_423),
     (Use::MayOpen(1001), 1),
@@ -273,6 +303,28 @@ static DIRECTORIES: [(Use, u64); 27] = [
     (Use::MaxWrite, 4096),
 ];
 
+// Then: which listings are kept.
+static LISTINGS: [(Use, u64); 15] = [
+    // A directory that is open twice has one listing, that which was made last.
+    (Use::OpensDirectory(1000, 1, 5), 4_294_967_513),
+    (Use::OpensDirectory(1001, 1, 5), 4_294_967_514),
+    (Use::Listed(4_294_967_513), 0),
+    (Use::ListsDirectory(4_294_967_513, 2), 0),
+    (Use::Listed(4_294_967_514), 3),
+    (Use::ListsDirectory(4_294_967_514, 1), 0),
+    (Use::Listed(4_294_967_513), 2),
+    // Another directory that has got the number of its inode hasn't.
+    (Use::OpensDirectory(1000, 1, 4_294_967_301), 4_294_967_515),
+    (Use::Listed(4_294_967_515), 0),
+    // Once it is closed as often, none is left.
+    (Use::ClosesDirectory(4_294_967_513), 0),
+    (Use::Listed(4_294_967_514), 2),
+    (Use::ClosesDirectory(4_294_967_514), 0),
+    (Use::Listed(4_294_967_514), 0),
+    (Use::OpensDirectory(1000, 1, 5), 4_294_967_516),
+    (Use::Listed(4_294_967_516), 0),
+];
+
 // Whether handles are numbered one by one, and lead back to their processes and descriptors.
 fn handles_are_apart() -> bool {
     let mut same = true;
@@ -290,7 +342,7 @@ fn handles_are_apart() -> bool {
 
 #[test]
 fn processes_and_handles(rt: HostRuntime) -> Result<(), Fail> {
-    let other = first_other(rt.alloc(), &[&PROCESSES, &CROWDS, &DIRECTORIES])?;
+    let other = first_other(rt.alloc(), &[&PROCESSES, &CROWDS, &DIRECTORIES, &LISTINGS])?;
     let seen = (other, handles_are_apart());
     assert!(rt; seen == (None, true), "{seen:?}");
     Ok(())

@@ -10,15 +10,15 @@ use Rattle.fuse_requests.proofs.directories.list_now.Goals as goal
 pub returns-in_err-ino-clause-failed : goal.returns-in_err-ino-clause-failed
 returns-in_err-ino-clause-failed g c = if-fails _ c.from_residual.ensures (then-err _ c.in_err-ino.ensures)
 
-pub returns-then-ino-open_ino-clause-failed : goal.returns-then-ino-open_ino-clause-failed
-returns-then-ino-open_ino-clause-failed g c =
-    then-ok _ c.in_ok-ino.ensures (then-err _ (where-false _ _ (ne_eqb _ _ c.if-ino-open_ino.true) (has-failed _ _)))
+pub returns-then-node-opened-clause-failed : goal.returns-then-node-opened-clause-failed
+returns-then-node-opened-clause-failed g c =
+    then-ok _ c.in_ok-ino.ensures (then-err _ (where-false _ _ (ne_eqb _ _ c.if-node-opened.true) (has-failed _ _)))
 
 pub returns-in_err-names-clause-failed : goal.returns-in_err-names-clause-failed
 returns-in_err-names-clause-failed g c =
     if-fails _ c.from_residual-in_err-names.ensures
     (then-ok _ c.in_ok-ino.ensures
-    (then-ok _ (where-true _ _ (eq-eqb _ _ c.if-ino-open_ino.false) (gives _ _)) (reads _ _ refl (then-err _ c.in_err-names.ensures.did))))
+    (then-ok _ (where-true _ _ (eq-eqb _ _ c.if-node-opened.false) (gives _ _)) (reads _ _ refl (then-err _ c.in_err-names.ensures.did))))
 
 pub returns-clause-listed : goal.returns-clause-listed
 returns-clause-listed g c =
@@ -27,7 +27,7 @@ returns-clause-listed g c =
       names = in_order c.in_ok-names.names;
       did =
           then-ok _ c.in_ok-ino.ensures
-          (then-ok _ (where-true _ _ (eq-eqb _ _ c.if-ino-open_ino.false) (gives _ _))
+          (then-ok _ (where-true _ _ (eq-eqb _ _ c.if-node-opened.false) (gives _ _))
           (reads _ _ refl (then-ok _ c.in_ok-names.ensures.did (keeps _ _ refl listed (gives _ _)))));
       kept =
           ap (λ s. listing_of s c.args.handle) listed

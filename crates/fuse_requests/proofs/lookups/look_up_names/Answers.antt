@@ -4,13 +4,13 @@ use Rattle.std.proofs.Common.{refl, sym, ap, subst, ◌∙◌, arith, append_ass
 use Rattle.std.proofs.lemmas.List.{append-nil}
 use Rattle.fs_layout.specs.Maps.{get}
 use Rattle.fuse_protocol.specs.Entries.{directory_record_bytes, record_size}
-use Rattle.fuse_state.specs.Servers.{listing_in, listing_of}
+use Rattle.fuse_state.specs.Servers.{listing_of}
 use Rattle.fuse_plans.specs.ListingOrder.{behind, with_offsets}
 use Rattle.fuse_plans.specs.ListingPlans.{LookedUp, look_up_names, names_within, records_bytes, told_record}
 use Rattle.fuse_steps.proofs.Cursors.{next-offset}
 use Rattle.fuse_sessions.specs.Performing.{Did}
 use Rattle.fuse_sessions.proofs.Doings.{same-work}
-use Rattle.fuse_requests.proofs.Listings.{has-some, length-told, next-named, records-more, tells-end, tells-next}
+use Rattle.fuse_requests.proofs.Listings.{has-some, same-listing, length-told, next-named, records-more, tells-end, tells-next}
 use Rattle.fuse_requests.proofs.lookups.look_up_names.Goals as goal
 
 pub loop-next-init : goal.loop-next-init
@@ -27,6 +27,7 @@ loop-next-init g c =
             (c.begin_behind-cursor.ensures.behind listing is)) did),
       );
       directories = refl;
+      listings = refl;
       capacity = c.requires.fits.1;
       within = omega (arith, empty);
       names = omega (arith, empty, c.requires.fits.2);
@@ -46,7 +47,7 @@ loop-next-preserved g c =
       told = λ listing is.
           let old = c.loop-next.invariant.told listing is in
           let there : listing_of c.loop-next.session.server.server c.args.extent.handle ≡ Some listing =
-          ap (λ ds. listing_in (get nat_cmp ds c.args.extent.handle)) c.loop-next.invariant.directories ∙ is in
+          same-listing c.args.session.now.server.server c.loop-next.session.server.server c.args.extent.handle c.loop-next.invariant.directories c.loop-next.invariant.listings ∙ is in
           let named : slice_get listing at ≡ Some e.0 = sym (ap (λ o. option_and_then (λ names. slice_get names at) o) there) ∙ e.1 in
           let rest_is : with_offsets c.loop-next.cursor.before (drop at listing) ≡ (c.in-Some.next.before, e.0) ∷ with_offsets c.in-Some.next.before (drop c.in-Some.next.at listing) =
           next-offset c.loop-next.cursor.before c.in-Some.next.before e.0 next.1
@@ -71,6 +72,7 @@ loop-next-preserved g c =
                 (c.in-Some.next.before, e.0) _ fits later next.0.did did))),
           );
       directories = ends.directories ∙ c.loop-next.invariant.directories;
+      listings = ends.listings ∙ c.loop-next.invariant.listings;
       capacity = ends.capacity;
       within = ends.within refl;
       names = omega (arith, ends.longer refl, ends.names, c.loop-next.invariant.names);
@@ -85,7 +87,7 @@ returns g c listing is =
     let ends = c.in_default.ensures in
     let old = c.loop-next.invariant.told listing is in
     let there : listing_of c.loop-next.session.server.server c.args.extent.handle ≡ Some listing =
-    ap (λ ds. listing_in (get nat_cmp ds c.args.extent.handle)) c.loop-next.invariant.directories ∙ is in
+    same-listing c.args.session.now.server.server c.loop-next.session.server.server c.args.extent.handle c.loop-next.invariant.directories c.loop-next.invariant.listings ∙ is in
     let crowds : (e : List ℕ × ℕ) → slice_get listing at ≡ Some e → c.args.extent.size < held + record_size (length e.0) =
     λ e named. omega (arith, ends.crowded e (ap (λ o. option_and_then (λ names. slice_get names at) o) there ∙ named) refl, c.loop-next.bytes.ok.0) in
     let done : Did g.M.Machine.Serves (look_up_names c.args.needs_nobody c.args.place (names_within c.args.extent.size (behind c.args.extent.offset listing)))

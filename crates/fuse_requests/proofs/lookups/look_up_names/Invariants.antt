@@ -17,6 +17,7 @@ invariant-loop-next g l = record {
       → Did g.M.Machine.Serves (look_up_names l.needs_nobody l.place (names_within l.extent.size (behind l.extent.offset listing)))
       l.initial.session fin (Ok (found ++ rest)));
   directories : l.session.server.server.directories ≡ l.initial.session.server.server.directories;
+  listings : l.session.server.server.listings ≡ l.initial.session.server.server.listings;
   capacity : l.extent.size ≤ vec_capacity l.bytes;
   within : vec_len l.bytes ≤ l.extent.size;
   names : l.extent.size ≤ vec_len l.bytes + 152 * l.names + 151;

@@ -13,5 +13,5 @@ pub returns : goal.returns
 unfolding read_directory_plus
 returns g c =
     let kept = c.in_ok-list_kept.ensures.listed in
-    let told = c.look_up_names-bytes.ensures kept.names kept.kept in
+    let told = (rw c.bounded-told.ensures at c.look_up_names-bytes.ensures) kept.names kept.kept in
     then-ok _ (attempts _ c.standing_directory-place.ensures) (then-ok _ kept.did (then-ok _ told.2 (gives-as (ap Bytes told.1))))

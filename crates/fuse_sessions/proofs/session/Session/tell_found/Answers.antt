@@ -14,6 +14,13 @@ found-directories p n kind s = go (is_gone s n)
     go true = refl
     go false = refl
 
+found-listings : (p : Dentry) (n : ℕ) (kind : FileType) (s : Server) → (with_found p n kind s).listings ≡ s.listings
+found-listings p n kind s = go (is_gone s n)
+  where
+    go : (b : Bool) → (once_more n (with_dentry p n kind (if b then with_generation n s else s))).listings ≡ s.listings
+    go true = refl
+    go false = refl
+
 pub returns-in_err-stamps-clause-did : goal.returns-in_err-stamps-clause-did
 returns-in_err-stamps-clause-did g c = then-fails _ c.from_residual.ensures c.in_err-stamps.ensures.did
 
@@ -27,3 +34,9 @@ returns-clause-directories g c =
     ap (λ (s : Server). s.directories) c.note_found.ensures.kept
     ∙ found-directories c.dentry.result c.args.status.ino c.args.status.kind c.told_stamps.new.self.server.server
     ∙ ap (λ k. k.server.directories) c.in_ok-stamps.ensures.kept
+
+pub returns-clause-listings : goal.returns-clause-listings
+returns-clause-listings g c =
+    ap (λ (s : Server). s.listings) c.note_found.ensures.kept
+    ∙ found-listings c.dentry.result c.args.status.ino c.args.status.kind c.told_stamps.new.self.server.server
+    ∙ ap (λ k. k.server.listings) c.in_ok-stamps.ensures.kept
