@@ -39,8 +39,7 @@ def write_and_sync(place):
 def calls_for(seconds, folder, round_):
     """What each look and each write of 4 KiB with its fsync took."""
     looks, writes, end = [], [], time.monotonic() + seconds
-    with open(folder / 'own', 'wb') as own:
-        os.pwrite(own.fileno(), bytes(4096), 0)
+    with open(folder / 'own', 'r+b') as own:
         n = 0
         while time.monotonic() < end:
             looks.append(taken(look_for, folder / f'{round_}-{n}'))
@@ -97,6 +96,8 @@ def beside(mounted):
     mounted.begin()
     crowded, own = work_dir(mounted, 'crowded', user=1000), work_dir(mounted, 'own', user=1001)
     os.chown(own, 1001, 101)
+    (own / 'own').write_bytes(bytes(4096))
+    os.chown(own / 'own', 1001, 101)
     maker = Worker('ann', link_all)
     maker.ask(crowded, picked_names() + other_names())
     victim = Worker('bob', calls_for)
