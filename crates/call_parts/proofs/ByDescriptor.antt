@@ -10,6 +10,7 @@
 --     asked_performs, unread_performs, interrupted_performs        it is refused after that
 --     told        it answers, and changes nothing
 --     changed_tree, broken_later, changed_one        it has changed the tree, or its process alone
+use Rattle.call_parts.specs.Callers.{ByProcess}
 use Rattle.std.specs.Prelude.{◌≡◌, ◌≢◌, ℕ, ◌<◌, ◌==◌, Bool, true, false, cond, not, is_some, List, Option, None, Some, unwrap_or, ◌⊎◌, ◌||◌, IsTrue, Result, Ok, Err, IsOk, IsErr, IsErrAnd}
 use Rattle.std.proofs.Common.{refl, sym, ap, subst, ◌∙◌, inl, inr}
 use Rattle.std.specs.List.{list_any}
@@ -257,11 +258,11 @@ module _ {pid : ℕ} {call : Call} {fd : ℕ} {purpose : OpenFor} {demands : Sce
     (is : ActsOn call fd purpose demands effect) {p : Geometry} where
   -- the refusal of the descriptor is passed on
   pub closed_refused : {time : ℕ} {txn : TxnState} {processes : ProcessTable} (r : Result Reply Refusal) (e : Refusal) → IsErr r → IsErrAnd r (λ y. y ≡ e)
-      → ((s : State) → s.processes ≡ processes → IsNotOpen s pid fd purpose e) → Performs p time pid call txn txn processes processes r
+      → ((s : State) → s.processes ≡ processes → IsNotOpen s pid fd purpose e) → Performs p time (ByProcess pid) call txn txn processes processes r
   closed_refused r e err and refuses = refused_performs r e err and store_same (λ s at. why.early ((refuses s at.same_processes).each call demands effect is))
 
   pub open_refused : {time : ℕ} {old new : TxnState} {processes : ProcessTable} (r : Result Reply Refusal) (e : Refusal) → IsErr r → IsErrAnd r (λ y. y ≡ e) → SameStore old new
-      → ((s : State) → IsStateOf p old.sectors processes s → RefusesOpen old.disk new.disk s pid fd purpose e) → Performs p time pid call old new processes processes r
+      → ((s : State) → IsStateOf p old.sectors processes s → RefusesOpen old.disk new.disk s pid fd purpose e) → Performs p time (ByProcess pid) call old new processes processes r
   open_refused r e err and store refuses = refused_performs r e err and store (λ s at. (refuses s at).each call demands effect is)
 
   module _ {old mid : TxnState} (same : IsUnchanged old mid) {processes : ProcessTable} {d : Descriptor} (w : IsOpenFor processes pid fd purpose d) where
@@ -278,24 +279,24 @@ module _ {pid : ℕ} {call : Call} {fd : ℕ} {purpose : OpenFor} {demands : Sce
     module _ (new : TxnState) (r : Result Reply Refusal) (e : Refusal) (err : IsErr r) (and : IsErrAnd r (λ y. y ≡ e)) (store : SameStore mid new) where
       -- what it asks of what is open refuses, or a read fails
       pub unread_performs : {time : ℕ} → ((s : State) → IsStateOf p mid.sectors processes s → (first_of (demands (open_scene s w.opened.process)) ≡ Some e) ⊎ FailsToRead mid.disk new.disk e)
-          → Performs p time pid call old new processes processes r
+          → Performs p time (ByProcess pid) call old new processes processes r
       unread_performs asked = refused_performs r e err and (store_joined same.store store)
           (λ s at. elim (asked s (state_kept same at)) [
             | inl refuses ↦ why.late (firm s at) (late s at ∙ refuses)
             | inr read ↦ why.read_fails (firm s at) (failed_later old.disk mid.disk new.disk same.store.reads.failures read.1) read.0
           ])
 
-      pub asked_performs : {time : ℕ} → ((s : State) → IsStateOf p mid.sectors processes s → first_of (demands (open_scene s w.opened.process)) ≡ Some e) → Performs p time pid call old new processes processes r
+      pub asked_performs : {time : ℕ} → ((s : State) → IsStateOf p mid.sectors processes s → first_of (demands (open_scene s w.opened.process)) ≡ Some e) → Performs p time (ByProcess pid) call old new processes processes r
       asked_performs asked = unread_performs (λ s at. inl (asked s at))
 
       -- or memory is lacking
-      pub interrupted_performs : {time : ℕ} → IsTrue (asks_in_call call) → Interrupts mid.disk new.disk e → Performs p time pid call old new processes processes r
+      pub interrupted_performs : {time : ℕ} → IsTrue (asks_in_call call) → Interrupts mid.disk new.disk e → Performs p time (ByProcess pid) call old new processes processes r
       interrupted_performs asks way = refused_performs r e err and (store_joined same.store store)
-          (λ s at. interrupted_refused old.disk new.disk s pid call (firm s at) asks e (interrupts_later new.disk same way))
+          (λ s at. interrupted_refused old.disk new.disk s (ByProcess pid) call (firm s at) asks e (interrupts_later new.disk same way))
 
     pub told : {time : ℕ} (new : TxnState) → IsUnchanged mid new → (reply : Reply)
         → ((s : State) → IsStateOf p mid.sectors processes s → (first_of (demands (open_scene s w.opened.process)) ≡ None) × (effect (open_scene s w.opened.process) ≡ answers (open_scene s w.opened.process) reply))
-        → Performs p time pid call old new processes processes (Ok reply)
+        → Performs p time (ByProcess pid) call old new processes processes (Ok reply)
     told new later reply says = told_performs (Ok reply) (unchanged_joined same later)
         (λ s at.
         let t = says s (state_kept same at) in (
@@ -307,7 +308,7 @@ module _ {pid : ℕ} {call : Call} {fd : ℕ} {purpose : OpenFor} {demands : Sce
 
     -- or a fault, after it has changed the tree
     pub broken_later : {time : ℕ} {last : TxnState} (new : TxnState) (r : Result Reply Refusal) (e : Refusal) → IsErr r × IsErrAnd r (λ y. y ≡ e) → SameStore mid last → SameStore last new
-        → FailsToRead last.disk new.disk e → Performs p time pid call old new processes processes r
+        → FailsToRead last.disk new.disk e → Performs p time (ByProcess pid) call old new processes processes r
     broken_later {last} new r e err first store fault = unread_performs new r e err.0 err.1 (store_joined first store)
         (λ s at. inr (fault.0, failed_later mid.disk last.disk new.disk first.reads.failures fault.1))
 
@@ -316,7 +317,7 @@ module _ {pid : ℕ} {call : Call} {fd : ℕ} {purpose : OpenFor} {demands : Sce
         → MovesTimes p time touches last new → (f : Process → Process) (reply : Reply) → now ≡ with_changed processes pid f
         → ((s : State) → IsStateOf p mid.sectors processes s
         → IsChange p last.sectors now s (f w.opened.process) (demands (open_scene s w.opened.process)) (λ k. effect (open_scene s w.opened.process)) reply touches)
-        → Performs p time pid call old new processes now (Ok reply)
+        → Performs p time (ByProcess pid) call old new processes now (Ok reply)
     changed_tree last now store super moved f reply is_now says = record {
       store = store_joined same.store (store_joined store moved.store);
       super = moved.super ∙ super ∙ same.sectors 0;
@@ -341,7 +342,7 @@ module _ {pid : ℕ} {call : Call} {fd : ℕ} {purpose : OpenFor} {demands : Sce
     pub changed_one : {time : ℕ} (new : TxnState) (now : ProcessTable) → IsUnchanged mid new → (f : Process → Process) (reply : Reply) → now ≡ with_changed processes pid f
         → ((n : ℕ) → has_open n (f w.opened.process) ≡ has_open n w.opened.process)
         → ((s : State) → IsStateOf p mid.sectors processes s → (first_of (demands (open_scene s w.opened.process)) ≡ None) × (effect (open_scene s w.opened.process) ≡ with_process (f w.opened.process) reply))
-        → Performs p time pid call old new processes now (Ok reply)
+        → Performs p time (ByProcess pid) call old new processes now (Ok reply)
     changed_one new now later f reply is_now keeps says = changed_tree new now later.store (later.sectors 0) (none_moved new) f reply is_now
         (λ s at.
         let t = says s at in

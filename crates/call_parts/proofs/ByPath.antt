@@ -1,6 +1,7 @@
 -- A refusal that a call passes on.
 --     refused_performs, absent_performs        any; there is no such process
 --     same_err        an error is one refusal
+use Rattle.call_parts.specs.Callers.{Who, IsAbsent}
 use Rattle.std.specs.Prelude.{◌≡◌, ℕ, None, Result, Err, IsErr, IsErrAnd}
 use Rattle.std.proofs.Common.{refl, sym, subst}
 use Rattle.std.specs.Ordering.{nat_cmp}
@@ -22,17 +23,17 @@ use Rattle.call_parts.proofs.Calling.{absent_refused}
 
 -- ---- a refusal, passed on
 
-pub refused_performs : {p : Geometry} {time pid : ℕ} {call : Call} {old new : TxnState} {processes : ProcessTable} (r : Result Reply Refusal) (e : Refusal) → IsErr r → IsErrAnd r (λ y. y ≡ e)
-    → SameStore old new → ((s : State) → IsStateOf p old.sectors processes s → IsRefused old.disk new.disk s pid call e) → Performs p time pid call old new processes processes r
-refused_performs {p} {time} {pid} {call} {old} {new} {processes} r e err and store each =
-    subst (λ (x : Result Reply Refusal). Performs p time pid call old new processes processes x) (sym (is_err r e err and))
+pub refused_performs : {p : Geometry} {time : ℕ} {who : Who} {call : Call} {old new : TxnState} {processes : ProcessTable} (r : Result Reply Refusal) (e : Refusal) → IsErr r → IsErrAnd r (λ y. y ≡ e)
+    → SameStore old new → ((s : State) → IsStateOf p old.sectors processes s → IsRefused old.disk new.disk s who call e) → Performs p time who call old new processes processes r
+refused_performs {p} {time} {who} {call} {old} {new} {processes} r e err and store each =
+    subst (λ (x : Result Reply Refusal). Performs p time who call old new processes processes x) (sym (is_err r e err and))
     (record { store = store; super = tt; table = refl; each = each })
 
 -- there is no such process
-pub absent_performs : {p : Geometry} {time pid : ℕ} {call : Call} {txn : TxnState} {processes : ProcessTable} (r : Result Reply Refusal) (errno : Errno) → IsErr r
-    → IsErrAnd r (λ y. y ≡ Failed errno) → (errno ≡ ESRCH) × (get nat_cmp processes pid ≡ None) → Performs p time pid call txn txn processes processes r
-absent_performs {p} {time} {pid} {call} {txn} {processes} r errno err and is = refused_performs r (Failed errno) err and store_same
-    (λ s at. absent_refused at txn.disk txn.disk pid call errno is)
+pub absent_performs : {p : Geometry} {time : ℕ} {who : Who} {call : Call} {txn : TxnState} {processes : ProcessTable} (r : Result Reply Refusal) (errno : Errno) → IsErr r
+    → IsErrAnd r (λ y. y ≡ Failed errno) → (errno ≡ ESRCH) × IsAbsent processes who → Performs p time who call txn txn processes processes r
+absent_performs {p} {time} {who} {call} {txn} {processes} r errno err and is = refused_performs r (Failed errno) err and store_same
+    (λ s at. absent_refused at txn.disk txn.disk who call errno is)
 
 abbrev pub refusing : (A : Type 0) → Refusal → Result A Refusal
 refusing A e = Err e

@@ -1,5 +1,5 @@
 -- A call joined from its parts: the checks and the walk of its path, what it asks of what was found, and its effect.
-use Rattle.std.specs.Prelude.{◌≡◌, ℕ, ◌<◌, List, [], ◌∷◌, ◌++◌, None, Some, IsTrue, Result, Ok, Err, OnOk, OnErr}
+use Rattle.std.specs.Prelude.{◌≡◌, ℕ, ◌<◌, Bool, not, ◌&&◌, List, [], ◌∷◌, ◌++◌, None, Some, is_some, IsTrue, Result, Ok, Err, OnOk, OnErr}
 use Rattle.std.proofs.Common.{refl, sym, ap, subst, ◌∙◌, inl, inr}
 use Rattle.std.specs.Ordering.{nat_cmp}
 use Rattle.sector_disk.specs.Disk.{DiskState}
@@ -32,7 +32,19 @@ use Rattle.fs_model.proofs.Finds.{finds_are_there}
 use Rattle.fs_model.proofs.Unchanged.{nothing_to_drop, same_process_stays}
 use Rattle.path_walk.specs.Answers.{refused_or, Interrupts, IsAnswered}
 use Rattle.path_walk.specs.HeldTrees.{HoldsTree, IsThere}
-use Rattle.call_parts.specs.Paths.{scene_at, HasFound, IsTold}
+use Rattle.fs_cred.specs.declared.errno.Errno.TheVariants.{ENOENT, EBADF, ELOOP}
+use Rattle.std.specs.List.{flat_map}
+use Rattle.fs_model.specs.declared.event.Actor.{Actor}
+use Rattle.fs_model.specs.Demands.{refuse}
+use Rattle.fs_model.specs.Trees.{node_at}
+use Rattle.fs_model.specs.TreeChanges.{Change}
+use Rattle.fs_model.specs.Steps.{after_call_at, late_call_at, actor_scene, walk_refusals}
+use Rattle.fs_model.specs.Actors.{judged_as, standing_as, is_actor_call, acts_on_links, checks_from, is_link_node, start_demands}
+use Rattle.fs_model.specs.Parts.{is_empty}
+use Rattle.fs_model.proofs.StepsDemands.{first_met, then_met}
+use Rattle.call_parts.specs.Callers.{Who, ByProcess, ByActor, event, IsJudgedAs, IsAbsent, MayMake, first_start, path_asked, starts_asked, left_by}
+use Rattle.call_parts.proofs.Starts.{first_start_there}
+use Rattle.call_parts.specs.Paths.{scene_at, walk_by, HasFound, IsTold}
 use Rattle.call_parts.specs.Performing.{IsStateOf, IsDone, IsRefused, Performs, chosen}
 use Rattle.call_parts.specs.Performing as why
 use Rattle.path_walk.specs.Walked.{walk_of}
@@ -47,6 +59,10 @@ module _ {p : Geometry} {map : SectorMap} {processes : ProcessTable} {s : State}
 
   pub same_process : (pid : ℕ) (q : Process) → get nat_cmp processes pid ≡ Some q → get nat_cmp s.processes pid ≡ Some q
   same_process pid q there = ap (λ (d : ProcessTable). get nat_cmp d pid) at.same_processes ∙ there
+
+  -- as whom a caller is judged
+  pub same_caller : (who : Who) (q : Process) → IsJudgedAs processes who q → IsJudgedAs s.processes who q
+  same_caller who q there = subst (λ (d : ProcessTable). IsJudgedAs d who q) (sym at.same_processes) there
 
   pub state_process : (pid : ℕ) (q : Process) → get nat_cmp processes pid ≡ Some q → IsProcess s.tree q
   state_process pid q there = (at.is_state.processes at.up).each_process pid q (same_process pid q there)
@@ -119,20 +135,21 @@ on_err_same (Err e) h = h
 -- ---- refusals
 
 -- there is no such process
-pub absent_refused : {p : Geometry} {map : SectorMap} {processes : ProcessTable} {s : State} → IsStateOf p map processes s → (old new : DiskState) (pid : ℕ) (call : Call) (errno : Errno)
-    → (errno ≡ ESRCH) × (get nat_cmp processes pid ≡ None) → IsRefused old new s pid call (Failed errno)
+pub absent_refused : {p : Geometry} {map : SectorMap} {processes : ProcessTable} {s : State} → IsStateOf p map processes s → (old new : DiskState) (who : Who) (call : Call) (errno : Errno)
+    → (errno ≡ ESRCH) × IsAbsent processes who → IsRefused old new s who call (Failed errno)
 unfolding firm_refusal
-absent_refused {s = s} at old new pid call errno none =
+absent_refused {s = s} at old new (ByProcess pid) call errno none =
     let e = ap (λ (d : ProcessTable). get nat_cmp d pid) at.same_processes ∙ none.1 in
-    subst (λ (x : Errno). IsRefused old new s pid call (Failed x)) (sym none.0) (why.early (rw e refl))
+    subst (λ (x : Errno). IsRefused old new s (ByProcess pid) call (Failed x)) (sym none.0) (why.early (rw e refl))
+absent_refused {s = s} at old new (ByActor v) call errno none = absurd none.1
 
-module _ (old new : DiskState) (s : State) (pid : ℕ) (call : Call) (firm : firm_refusal s (Calls pid call) ≡ None) (asks : IsTrue (asks_in_call call)) (r : Refusal) where
-  pub interrupted_refused : Interrupts old new r → IsRefused old new s pid call r
+module _ (old new : DiskState) (s : State) (who : Who) (call : Call) (firm : firm_refusal s (event who call) ≡ None) (asks : IsTrue (asks_in_call call)) (r : Refusal) where
+  pub interrupted_refused : Interrupts old new r → IsRefused old new s who call r
   interrupted_refused way = elim way [ inl memory ↦ why.lacks_memory firm asks memory | inr read ↦ why.read_fails firm read.1 read.0 ]
 
   -- by what is asked of what was found
-  pub answered_refused : {A : Type 0} (d : Demand) (x : A) → other_refusal s (Calls pid call) ≡ d → IsAnswered old new (refused_or d (Ok x)) (Err r)
-      → IsRefused old new s pid call r
+  pub answered_refused : {A : Type 0} (d : Demand) (x : A) → other_refusal s (event who call) ≡ d → IsAnswered old new (refused_or d (Ok x)) (Err r)
+      → IsRefused old new s who call r
   answered_refused d x late h = elim h [
     | inl e ↦ why.late firm (late ∙ refused_err d x r e)
     | inr way ↦ interrupted_refused way
@@ -172,82 +189,153 @@ unfolding found_of
 ino_of_trail room t cwd form path = refl
 
 -- what was found is there
-pub found_there : {p : Geometry} {map : SectorMap} {processes : ProcessTable} {s : State} {pid : ℕ} {q : Process} {form : Form} {path : List ℕ} {f : Found} (n : ℕ)
-    → IsStateOf p map processes s → HasFound s pid q form path f → f.ino ≡ Some n → IsThere s.tree n
-found_there {p} {map} {processes} {s} {pid} {q} {form} {path} {f} n at found is =
-    let here = (at.is_state.processes at.up).each_process pid q found.there in
-    finds_are_there s.room s.tree at.is_state.tree q.cwd form path (is_there s.tree q.cwd here.cwd.node here.cwd.is_there) n
-    (sym (ino_of_trail s.room s.tree q.cwd form path) ∙ ap (λ (g : Found). g.ino) (sym found.is) ∙ is)
+pub found_there : {p : Geometry} {map : SectorMap} {processes : ProcessTable} {s : State} {who : Who} {q : Process} {links : Bool} {form : Form} {path : List ℕ} {f : Found} (n : ℕ)
+    → IsStateOf p map processes s → HasFound s who q links form path f → f.ino ≡ Some n → IsThere s.tree n
+found_there {p} {map} {processes} {s} {who} {q} {links} {form} {path} {f} n at found is =
+    finds_are_there s.room s.tree at.is_state.tree (first_start who q) form path
+    (first_start_there s q links path at.is_state at.up who found.there found.started) n
+    (sym (ino_of_trail s.room s.tree (first_start who q) form path) ∙ ap (λ (g : Found). g.ino) (sym found.is) ∙ is)
 
-module _ (s : State) (pid : ℕ) (q : Process) (call : Call) (form : Form) (path : List ℕ) (arguments : List Demand) (demands : Scene → List Demand)
-    (effect : Scene → ℕ → Effect) (row : row_of call ≡ by_path arguments form path demands effect) (met : first_of arguments ≡ None)
-    (there : get nat_cmp s.processes pid ≡ Some q) where
-  pub by_path_firm : firm_refusal s (Calls pid call) ≡ first_of (path_checks path)
-  by_path_firm =
-      early_is s pid q call there ∙ ap (early_refusal q) row
-      ∙ first_of-append (arguments ++ path_checks path) []
-      ∙ or_else-none (first_of (arguments ++ path_checks path))
-      ∙ first_of-append arguments (path_checks path)
-      ∙ ap (λ d. or_else d (first_of (path_checks path))) met
+-- ---- of either event
 
-  pub by_path_late : other_refusal s (Calls pid call)
-      ≡ or_else (first_refusal s.tree q.cred 1 form (trail_in s.room s.tree q.cwd (form, path))) (first_of (demands (scene_at s q (found_by s.room s.tree q.cwd (form, path)))))
-  by_path_late = late_is s pid q call there ∙ ap (late_refusal s q) row
+-- its arguments, and then its path
+path_early : (arguments checks : List Demand) → first_of (arguments ++ (checks ++ []) ++ []) ≡ or_else (first_of arguments) (first_of checks)
+path_early arguments checks =
+    first_of-append (arguments ++ (checks ++ [])) []
+    ∙ or_else-none (first_of (arguments ++ (checks ++ [])))
+    ∙ first_of-append arguments (checks ++ [])
+    ∙ ap (or_else (first_of arguments)) (first_of-append checks [] ∙ or_else-none (first_of checks))
+
+-- what is no visit is refused first
+pub actor_early : (call : Call) (d : Demand) → IsTrue (is_actor_call call) → or_else (refuse EBADF (not (is_actor_call call))) d ≡ d
+actor_early call d is = ap (λ b. or_else (refuse EBADF (not b)) d) is
+
+-- the demands on the starts are those of its call
+pub starts_are : (t : Tree) (v : Actor) (call : Call) (links : Bool) (form : Form) (path : List ℕ) (walks : List (Form × List ℕ)) → acts_on_links call ≡ links
+    → start_demands t v call ((form, path) ∷ walks) ≡ starts_asked t (ByActor v) links path
+starts_are t v call links form path walks is =
+    ap (λ b. refuse ENOENT (not (is_some (node_at t v.start))) ∷ refuse ENOENT (not (is_some (node_at t v.second_start)))
+    ∷ refuse ELOOP (is_empty path && is_link_node (node_at t v.start) && not b) ∷ []) is
+
+module _ (s : State) (q : Process) (call : Call) (links : Bool) (form : Form) (path : List ℕ) (arguments : List Demand) (demands : Scene → List Demand)
+    (effect : Scene → ℕ → Effect) (row : row_of call ≡ by_path arguments form path demands effect) where
+  abbrev found_from : Who → Found
+  found_from who = found_by s.room s.tree (first_start who q) (form, path)
+
+  abbrev walk_refuses : Who → Demand
+  walk_refuses who = first_refusal s.tree q.cred 1 form (trail_in s.room s.tree (first_start who q) (form, path))
+
+  abbrev row_here : Row
+  row_here = by_path arguments form path demands effect
+
+  pub path_firm : (who : Who) → IsJudgedAs s.processes who q → MayMake who call links
+      → firm_refusal s (event who call) ≡ or_else (first_of arguments) (first_of (path_asked who path))
+  unfolding firm_refusal
+  path_firm (ByProcess pid) there may =
+      early_is s pid q call there ∙ ap (early_refusal q) row ∙ path_early arguments (path_checks path)
+  path_firm (ByActor v) there may =
+      actor_early call (first_of ((row_of call).arguments ++ flat_map (λ walk. checks_from walk.1) (row_of call).walks ++ (row_of call).early (judged_as v))) may.0
+      ∙ ap (λ (r : Row). first_of (r.arguments ++ flat_map (λ walk. checks_from walk.1) r.walks ++ r.early (judged_as v))) row
+      ∙ path_early arguments (checks_from path)
+
+  path_late : (who : Who) → IsJudgedAs s.processes who q → MayMake who call links
+      → other_refusal s (event who call) ≡ or_else (first_of (starts_asked s.tree who links path)) (or_else (walk_refuses who) (first_of (demands (scene_at s q (found_from who)))))
+  unfolding other_refusal
+  path_late (ByProcess pid) there may = late_is s pid q call there ∙ ap (late_refusal s q) row
+  path_late (ByActor v) there may =
+      ap (late_call_at s v call) row
+      ∙ first_of-append (start_demands s.tree v call row_here.walks) (walk_refusals s.room s.tree (standing_as v) 1 row_here.walks ++ demands (actor_scene s v row_here))
+      ∙ ap (λ ds. or_else (first_of ds) (first_of (walk_refusals s.room s.tree (standing_as v) 1 row_here.walks ++ demands (actor_scene s v row_here)))) (starts_are s.tree v call links form path [] may.1)
+      ∙ ap (λ (k : Process). or_else (first_of (starts_asked s.tree (ByActor v) links path))
+      (or_else (first_refusal s.tree k.cred 1 form (trail_in s.room s.tree v.start (form, path))) (first_of (demands (scene_at s k (found_by s.room s.tree v.start (form, path))))))) (sym there.is)
+
+  path_after : (who : Who) (number : ℕ) → IsJudgedAs s.processes who q → after s (event who call) (chosen number 0) ≡ left_by who s (effect (scene_at s q (found_from who)) number)
+  unfolding after
+  path_after (ByProcess pid) number there = after_is s pid q call there (chosen number 0) ∙ ap (λ (x : Row). after_call s pid x number (Some q)) row
+  path_after (ByActor v) number there =
+      ap (λ (r : Row). after_call_at s (r.effect (actor_scene s v r) number)) row
+      ∙ ap (λ (k : Process). after_call_at s (effect (scene_at s k (found_by s.room s.tree v.start (form, path))) number)) (sym there.is)
+
+-- an effect that leaves the caller as it is leaves all processes so
+pub left_same : {p : Geometry} {map : SectorMap} {processes : ProcessTable} {s : State} (at : IsStateOf p map processes s) (who : Who) (q : Process) → IsJudgedAs s.processes who q
+    → (change : Change) (reply : Reply) → left_by who s (record { change = change; process = q; reply = reply }) ≡ record { change = change; processes = processes; reply = reply; now = s.now }
+left_same {s = s} at (ByProcess pid) q there change reply =
+    ap (λ (d : ProcessTable). record { change = change; processes = d; reply = reply; now = s.now }) (same_process_stays s.processes pid q at.is_state.pids there ∙ at.same_processes)
+left_same {s = s} at (ByActor v) q there change reply =
+    ap (λ (d : ProcessTable). record { change = change; processes = d; reply = reply; now = s.now }) at.same_processes
+
+-- ---- a call by one path
+
+module _ (s : State) (who : Who) (q : Process) (call : Call) (links : Bool) (form : Form) (path : List ℕ) (arguments : List Demand) (demands : Scene → List Demand)
+    (effect : Scene → ℕ → Effect) (row : row_of call ≡ by_path arguments form path demands effect) (met : first_of arguments ≡ None) (may : MayMake who call links)
+    (there : IsJudgedAs s.processes who q) where
+  abbrev start : ℕ
+  start = first_start who q
+
+  pub by_path_firm : firm_refusal s (event who call) ≡ first_of (path_asked who path)
+  by_path_firm = path_firm s q call links form path arguments demands effect row who there may ∙ ap (λ d. or_else d (first_of (path_asked who path))) met
+
+  pub by_path_late : other_refusal s (event who call)
+      ≡ or_else (first_of (starts_asked s.tree who links path)) (or_else (first_refusal s.tree q.cred 1 form (trail_in s.room s.tree start (form, path)))
+      (first_of (demands (scene_at s q (found_by s.room s.tree start (form, path))))))
+  by_path_late = path_late s q call links form path arguments demands effect row who there may
 
   -- the checks or the walk refuse, or memory or a read fails
   pub resolve_refused : (old new : DiskState) (r : Refusal) → IsTrue (asks_in_call call)
-      → ((x : Refusal) → first_of (path_checks path) ≡ Some x → r ≡ x)
-      → (first_of (path_checks path) ≡ None → IsAnswered old new (walk_of s.room s.tree q.cred 1 form q.cwd path) (Err r))
-      → IsRefused old new s pid call r
-  resolve_refused old new r asks checked each = go (first_of (path_checks path)) refl
+      → ((x : Refusal) → first_of (path_asked who path) ≡ Some x → r ≡ x)
+      → (first_of (path_asked who path) ≡ None → IsAnswered old new (walk_by s who q links form path) (Err r))
+      → IsRefused old new s who call r
+  resolve_refused old new r asks checked each = go (first_of (path_asked who path)) refl
     where
-      walked : (d : Demand) → first_refusal s.tree q.cred 1 form (trail_in s.room s.tree q.cwd (form, path)) ≡ d
-          → refused_or d (Ok (found_by s.room s.tree q.cwd (form, path))) ≡ Err r → other_refusal s (Calls pid call) ≡ Some r
-      walked d is e =
-          by_path_late ∙ ap (λ x. or_else x (first_of (demands (scene_at s q (found_by s.room s.tree q.cwd (form, path)))))) (is ∙ refused_err d (found_by s.room s.tree q.cwd (form, path)) r e)
-
-      go : (o : Demand) → first_of (path_checks path) ≡ o → IsRefused old new s pid call r
+      go : (o : Demand) → first_of (path_asked who path) ≡ o → IsRefused old new s who call r
       go (Some x) e = why.early (by_path_firm ∙ e ∙ ap Some (sym (checked x e)))
       go None e = elim (each e) [
-        | inl is ↦ why.late (by_path_firm ∙ e) (walked (first_refusal s.tree q.cred 1 form (trail_in s.room s.tree q.cwd (form, path))) refl is)
-        | inr way ↦ interrupted_refused old new s pid call (by_path_firm ∙ e) asks r way
+        | inl is ↦ why.late (by_path_firm ∙ e)
+            (by_path_late
+            ∙ or_else-assoc (first_of (starts_asked s.tree who links path)) (first_refusal s.tree q.cred 1 form (trail_in s.room s.tree start (form, path))) (first_of (demands (scene_at s q (found_by s.room s.tree start (form, path)))))
+            ∙ ap (λ x. or_else x (first_of (demands (scene_at s q (found_by s.room s.tree start (form, path)))))) (refused_err (or_else (first_of (starts_asked s.tree who links path)) (first_refusal s.tree q.cred 1 form (trail_in s.room s.tree start (form, path)))) (found_by s.room s.tree start (form, path)) r is))
+        | inr way ↦ interrupted_refused old new s who call (by_path_firm ∙ e) asks r way
       ]
 
-  module _ (f : Found) (found : HasFound s pid q form path f) where
-    pub found_firm : firm_refusal s (Calls pid call) ≡ None
+  module _ (f : Found) (found : HasFound s who q links form path f) where
+    pub found_firm : firm_refusal s (event who call) ≡ None
     found_firm = by_path_firm ∙ found.checked
 
     -- what remains are the demands on what was found
-    pub found_late : other_refusal s (Calls pid call) ≡ first_of (demands (scene_at s q f))
+    pub found_late : other_refusal s (event who call) ≡ first_of (demands (scene_at s q f))
     found_late =
-        by_path_late ∙ ap (λ x. or_else x (first_of (demands (scene_at s q (found_by s.room s.tree q.cwd (form, path)))))) found.unrefused
+        by_path_late
+        ∙ ap (λ x. or_else x (or_else (first_refusal s.tree q.cred 1 form (trail_in s.room s.tree start (form, path)))
+        (first_of (demands (scene_at s q (found_by s.room s.tree start (form, path))))))) found.started
+        ∙ ap (λ x. or_else x (first_of (demands (scene_at s q (found_by s.room s.tree start (form, path)))))) found.unrefused
         ∙ ap (λ (g : Found). first_of (demands (scene_at s q g))) (sym found.is)
 
-    pub found_after : (number : ℕ) → after s (Calls pid call) (chosen number 0) ≡ after_effect s pid (effect (scene_at s q f) number)
+    pub found_after : (number : ℕ) → after s (event who call) (chosen number 0) ≡ left_by who s (effect (scene_at s q f) number)
     found_after number =
-        after_is s pid q call there (chosen number 0)
-        ∙ ap (λ (x : Row). after_call s pid x number (Some q)) row
-        ∙ ap (λ (g : Found). after_effect s pid (effect (scene_at s q g) number)) (sym found.is)
+        path_after s q call links form path arguments demands effect row who number there
+        ∙ ap (λ (g : Found). left_by who s (effect (scene_at s q g) number)) (sym found.is)
 
     -- where it only answers
     pub found_told : {p : Geometry} {map : SectorMap} {processes : ProcessTable} (reply : Reply) → IsStateOf p map processes s
-        → effect (scene_at s q f) 0 ≡ answers (scene_at s q f) reply → after s (Calls pid call) (chosen 0 0) ≡ unchanged s reply
+        → effect (scene_at s q f) 0 ≡ answers (scene_at s q f) reply → after s (event who call) (chosen 0 0) ≡ unchanged s reply
     found_told reply at is =
-        found_after 0 ∙ ap (after_effect s pid) is
-        ∙ ap (λ (d : ProcessTable). record { change = Same; processes = d; reply = reply; now = s.now }) (same_process_stays s.processes pid q at.is_state.pids there)
+        found_after 0 ∙ ap (left_by who s) is ∙ left_same at who q there Same reply
+        ∙ ap (λ (d : ProcessTable). record { change = Same; processes = d; reply = reply; now = s.now }) (sym at.same_processes)
 
 -- what the walk of a path has found
-pub resolved : (old new : DiskState) {s : State} {pid : ℕ} {q : Process} {form : Form} {path : List ℕ} (f : Found) → get nat_cmp s.processes pid ≡ Some q
-    → first_of (path_checks path) ≡ None → IsAnswered old new (walk_of s.room s.tree q.cred 1 form q.cwd path) (Ok f) → HasFound s pid q form path f
-resolved old new {s} {pid} {q} {form} {path} f there checked e =
-    let is = met_ok (first_refusal s.tree q.cred 1 form (trail_in s.room s.tree q.cwd (form, path))) (found_by s.room s.tree q.cwd (form, path)) f e in
-    record { there = there; checked = checked; unrefused = is.0; is = sym is.1 }
+pub resolved : (old new : DiskState) {s : State} {who : Who} {q : Process} {links : Bool} {form : Form} {path : List ℕ} (f : Found) → IsJudgedAs s.processes who q
+    → first_of (path_asked who path) ≡ None → IsAnswered old new (walk_by s who q links form path) (Ok f) → HasFound s who q links form path f
+resolved old new {s} {who} {q} {links} {form} {path} f there checked e =
+    let begin = first_of (starts_asked s.tree who links path) in
+    let refusal = first_refusal s.tree q.cred 1 form (trail_in s.room s.tree (first_start who q) (form, path)) in
+    let is = met_ok (or_else begin refusal) (found_by s.room s.tree (first_start who q) (form, path)) f e in
+    record { there = there; checked = checked; started = first_met begin refusal is.0; unrefused = then_met begin refusal is.0; is = sym is.1 }
 
 -- ---- a call that changes nothing
 
-told_done : {p : Geometry} {time : ℕ} {map : SectorMap} {processes : ProcessTable} {s : State} (new : SectorMap) (old' new' : DiskState) (pid : ℕ) (call : Call) (reply : Reply) → new ≡ map
-    → IsStateOf p map processes s → IsTold old' new' s pid call (Ok reply) → IsDone p time new processes s pid call reply
-told_done {p} {time} {map} {processes} {s} new old' new' pid call reply same at told = record {
+told_done : {p : Geometry} {time : ℕ} {map : SectorMap} {processes : ProcessTable} {s : State} (new : SectorMap) (old' new' : DiskState) (who : Who) (call : Call) (reply : Reply) → new ≡ map
+    → IsStateOf p map processes s → IsTold old' new' s who call (Ok reply) → IsDone p time new processes s who call reply
+told_done {p} {time} {map} {processes} {s} new old' new' who call reply same at told = record {
   early = told.0;
   late = told.1;
   number = 0;
@@ -259,15 +347,15 @@ told_done {p} {time} {map} {processes} {s} new old' new' pid call reply same at 
       (subst (λ (m : SectorMap). HoldsAll p m (placed s.tree)) (sym same) at.holds));
 }
 
-pub told_performs : {p : Geometry} {time pid : ℕ} {call : Call} {old new : TxnState} {processes : ProcessTable} (result : Result Reply Refusal) → IsUnchanged old new
-    → ((s : State) → IsStateOf p old.sectors processes s → IsTold old.disk new.disk s pid call result) → Performs p time pid call old new processes processes result
-told_performs {p} {time} {pid} {call} {old} {new} {processes} (Ok reply) same each = record {
+pub told_performs : {p : Geometry} {time : ℕ} {who : Who} {call : Call} {old new : TxnState} {processes : ProcessTable} (result : Result Reply Refusal) → IsUnchanged old new
+    → ((s : State) → IsStateOf p old.sectors processes s → IsTold old.disk new.disk s who call result) → Performs p time who call old new processes processes result
+told_performs {p} {time} {who} {call} {old} {new} {processes} (Ok reply) same each = record {
   store = same.store;
   super = same.sectors 0;
   table = tt;
-  each = λ s at. told_done new.sectors old.disk new.disk pid call reply (same_map same) at (each s at);
+  each = λ s at. told_done new.sectors old.disk new.disk who call reply (same_map same) at (each s at);
 }
-told_performs {p} {time} {pid} {call} {old} {new} {processes} (Err r) same each = record {
+told_performs {p} {time} {who} {call} {old} {new} {processes} (Err r) same each = record {
   store = same.store;
   super = tt;
   table = refl;

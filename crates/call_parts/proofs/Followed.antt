@@ -19,15 +19,19 @@ use Rattle.fs_model.specs.declared.walk.Found.{Found}
 use Rattle.fs_model.specs.declared.reply.Reply.TheVariants.{Granted}
 use Rattle.fs_model.specs.AttributeCalls.{access_effect, granted_by}
 use Rattle.fs_model.specs.Births.{no_node}
-use Rattle.fs_model.specs.Demands.{Demand, accessed_at, decided, permission_of, permission_on}
+use Rattle.fs_model.specs.Demands.{Demand, first_of, accessed_at, decided, permission_of, permission_on}
 use Rattle.fs_model.specs.Nodes.{Node, Body, File, Dir, Link, accessed, accessed_body, is_directory, is_link}
 use Rattle.fs_model.specs.Processes.{Process, ProcessTable}
 use Rattle.fs_model.specs.Scenes.{found_ino, node_found, body_found, permission_at_end, answers}
 use Rattle.fs_model.specs.Rules.{is_directory_kind}
-use Rattle.fs_model.specs.States.{State}
+use Rattle.fs_model.specs.States.{State, IsState}
 use Rattle.fs_model.specs.StoredNodes.{HoldsNode}
 use Rattle.fs_model.specs.Trees.{Tree, node_at, names_of, parent}
-use Rattle.fs_model.proofs.Followed.{followed_no_link}
+use Rattle.fs_model.specs.Trails.{trail_of}
+use Rattle.fs_model.proofs.Followed.{NoLink, followed_no_link}
+use Rattle.fs_model.proofs.FollowedActors.{from_object}
+use Rattle.call_parts.specs.Callers.{Who, ByProcess, ByActor, IsJudgedAs, first_start, starts_asked}
+use Rattle.call_parts.proofs.Starts.{start_no_link}
 use Rattle.path_walk.specs.Answers.{refused_or, IsAnswered}
 use Rattle.path_walk.specs.HeldTrees.{HasAccess}
 use Rattle.call_parts.specs.Paths.{scene_at, HasFound}
@@ -59,13 +63,19 @@ accessible owner group (File a bytes) e = (_, refl)
 accessible owner group (Dir a d) e = (_, refl)
 accessible owner group (Link target) e = absurd (cc)
 
-pub followed_access : {p : Geometry} {map : SectorMap} {processes : ProcessTable} {s : State} {pid : ℕ} {q : Process} {path : List ℕ} {f : Found} (n : ℕ)
-    → IsStateOf p map processes s → HasFound s pid q Follow path f → f.ino ≡ Some n → IsAccessed s.tree n
-followed_access {p} {map} {processes} {s} {pid} {q} {path} {f} n at found is =
+-- from a directory, or from an object that is none where nothing more is named
+start_leads : (s : State) (who : Who) (q : Process) (path : List ℕ) (n : ℕ) → IsState s → IsFalse s.halted → IsJudgedAs s.processes who q
+    → first_of (starts_asked s.tree who false path) ≡ None → (trail_of s.room s.tree (first_start who q) Follow path).found ≡ Some n → NoLink s.tree n
+start_leads s (ByProcess pid) q path n is up there met found =
+    followed_no_link s.room s.tree is.tree q.cwd path ((is.processes up).each_process pid q there).cwd n found
+start_leads s (ByActor v) q path n is up there met found = from_object s.room s.tree is.tree v.start path n found (start_no_link s.tree v path met)
+
+pub followed_access : {p : Geometry} {map : SectorMap} {processes : ProcessTable} {s : State} {who : Who} {q : Process} {path : List ℕ} {f : Found} (n : ℕ)
+    → IsStateOf p map processes s → HasFound s who q false Follow path f → f.ino ≡ Some n → IsAccessed s.tree n
+followed_access {p} {map} {processes} {s} {who} {q} {path} {f} n at found is =
     let there = stands s.tree n (found_there n at found is) in
-    let here = (at.is_state.processes at.up).each_process pid q found.there in
-    let none = followed_no_link s.room s.tree at.is_state.tree q.cwd path here.cwd n
-    (sym (ino_of_trail s.room s.tree q.cwd Follow path) ∙ ap (λ (g : Found). g.ino) (sym found.is) ∙ is) there.node there.at in
+    let none = start_leads s who q path n at.is_state at.up found.there found.started
+    (sym (ino_of_trail s.room s.tree (first_start who q) Follow path) ∙ ap (λ (g : Found). g.ino) (sym found.is) ∙ is) there.node there.at in
     let a = accessible there.node.owner there.node.group there.node.body none in
     record { node = there.node; at = there.at; access = a.0; is = a.1 }
 
@@ -80,10 +90,10 @@ pub node_is : (s : State) (q : Process) (f : Found) (n : ℕ) → found_ino f �
 node_is s q f n is a = ap (λ (k : ℕ). unwrap_or (node_at s.tree k) no_node) is ∙ ap (λ o. unwrap_or o no_node) a.at
 
 -- what was found is a directory where its inode says so
-pub directory_is : {p : Geometry} {map : SectorMap} {processes : ProcessTable} {s : State} {pid : ℕ} {q : Process} {path : List ℕ} {f : Found} {n : ℕ} {v : Inode}
-    → IsStateOf p map processes s → HasFound s pid q Follow path f → f.ino ≡ Some n → found_ino f ≡ n → v ≡ inode_at p map n
+pub directory_is : {p : Geometry} {map : SectorMap} {processes : ProcessTable} {s : State} {who : Who} {q : Process} {path : List ℕ} {f : Found} {n : ℕ} {v : Inode}
+    → IsStateOf p map processes s → HasFound s who q false Follow path f → f.ino ≡ Some n → found_ino f ≡ n → v ≡ inode_at p map n
     → is_directory (body_found (scene_at s q f) f) ≡ is_directory_kind v.kind
-directory_is {p} {map} {processes} {s} {pid} {q} {path} {f} {n} {v} at has some is inode =
+directory_is {p} {map} {processes} {s} {who} {q} {path} {f} {n} {v} at has some is inode =
     let a = followed_access n at has some in
     ap (λ (u : Node). is_directory u.body) (node_is s q f n is a)
     ∙ sym (ap (λ (w : Inode). is_directory_kind w.kind) inode ∙ held_kind (state_tree at) n a.node a.at)
@@ -96,8 +106,8 @@ rule_told s q f want n is a =
     ∙ ap (λ o. answers (scene_at s q f) (granted_by q.cred want o)) a.is
 
 -- the inode of what was found, as it was read
-module _ {p : Geometry} {mid new : TxnState} {processes : ProcessTable} {s : State} {pid : ℕ} {q : Process} {path : List ℕ} {f : Found} {n : ℕ} {v : Inode}
-    (at : IsStateOf p mid.sectors processes s) (has : HasFound s pid q Follow path f) (i : IsInodeFound p mid.sectors f n v) (same : IsUnchanged mid new) where
+module _ {p : Geometry} {mid new : TxnState} {processes : ProcessTable} {s : State} {who : Who} {q : Process} {path : List ℕ} {f : Found} {n : ℕ} {v : Inode}
+    (at : IsStateOf p mid.sectors processes s) (has : HasFound s who q false Follow path f) (i : IsInodeFound p mid.sectors f n v) (same : IsUnchanged mid new) where
   pub access_held : HasAccess new.sectors v (followed_access n at has i.some).access
   access_held =
       let a = followed_access n at has i.some in

@@ -1,3 +1,6 @@
+pub mod Finding
+pub mod Starts
+pub mod StartTypes
 pub mod Calling
 pub mod ByPath
 pub mod HeldChanges

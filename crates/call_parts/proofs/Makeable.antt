@@ -1,6 +1,9 @@
 -- What a directory is asked before something is made in it, once that is met.
 --     found_new        what was not found is a new name in a directory
 --     has_few, may_make        there is room for it
+use Rattle.std.specs.Prelude.{Bool}
+use Rattle.call_parts.specs.Callers.{Who, first_start}
+use Rattle.call_parts.proofs.Starts.{path_fits}
 use Rattle.std.specs.Prelude.{◌≡◌, ℕ, ◌<◌, ◌≤◌, ◌==◌, nat_lt, nat_le, false, List, length, None}
 use Rattle.std.proofs.Common.{sym, subst, arith, ◌∙◌}
 use Rattle.std.specs.List.{list_any}
@@ -34,13 +37,11 @@ use Rattle.call_parts.specs.Performing.{IsStateOf}
 use Rattle.call_parts.specs.Makings.{CanMake, make_asked}
 use Rattle.call_parts.proofs.Shown.{the_node_is}
 
-pub found_new : {p : Geometry} {map : SectorMap} {processes : ProcessTable} {s : State} {pid : ℕ} {q : Process} {form : Form} {path : List ℕ} {f : Found}
-    → IsStateOf p map processes s → HasFound s pid q form path f → IsBytes path → f.ino ≡ None → IsNameAt s.room s.tree f.dir_ino f.name None
-found_new {p} {map} {processes} {s} {pid} {q} {form} {path} {f} at has bytes none =
-    let later = then_met (refuse ENOENT (is_empty path)) _ has.checked in
-    let no_zero = unrefused EINVAL (list_any (λ b. b == 0) path) (first_met (refuse EINVAL (list_any (λ b. b == 0) path)) _ later) in
-    let walked : IsWalked s.room s.tree form (found_by s.room s.tree q.cwd (form, path)) =
-    is_walked s.room at.is_state.room.name_limit s.tree at.is_state.tree q.cred q.cwd 1 (form, path) bytes no_zero has.unrefused in
+pub found_new : {p : Geometry} {map : SectorMap} {processes : ProcessTable} {s : State} {who : Who} {q : Process} {links : Bool} {form : Form} {path : List ℕ} {f : Found}
+    → IsStateOf p map processes s → HasFound s who q links form path f → IsBytes path → f.ino ≡ None → IsNameAt s.room s.tree f.dir_ino f.name None
+found_new {p} {map} {processes} {s} {who} {q} {links} {form} {path} {f} at has bytes none =
+    let walked : IsWalked s.room s.tree form (found_by s.room s.tree (first_start who q) (form, path)) =
+    is_walked s.room at.is_state.room.name_limit s.tree at.is_state.tree q.cred (first_start who q) 1 (form, path) bytes (path_fits who path has.checked).no_zero has.unrefused in
     (subst (IsWalked s.room s.tree form) (sym has.is) walked).new none
 
 pub has_few : (p : Geometry) (map : SectorMap) (t : Tree) (dir_ino : ℕ) (cred : Credential) (step : ℕ) → first_of (make_asked p map cred t dir_ino step) ≡ None

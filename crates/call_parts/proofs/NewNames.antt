@@ -6,6 +6,9 @@
 --     caller_fits, new_in, ParentFits, parent_fits        the caller and the directory, in a state
 --     name_is_new, fresh, placed_made, node_made        something was made of a new name
 --     name_refused, name_found, made_refused, made_may_touch, made_done        a call that makes something
+use Rattle.std.specs.Prelude.{Bool, false}
+use Rattle.call_parts.specs.Callers.{Who}
+use Rattle.call_parts.proofs.Starts.{stands_fits}
 use Rattle.std.specs.Prelude.{◌≡◌, ◌⊎◌, ℕ, ◌+◌, ◌-◌, ◌^◌, ◌<◌, ◌≤◌, ◌==◌, nat_lt, nat_le, List, [], ◌∷◌, ◌++◌, length, None, IsTrue, Result, Ok, Err, IsErr, IsErrAnd}
 use Rattle.std.proofs.Common.{refl, sym, ap, subst, arith, ◌∙◌, inl, inr}
 use Rattle.sector_disk.specs.Disk.{DiskState, HasFailed}
@@ -144,9 +147,9 @@ pub record ParentFits (room : Room) (t : Tree) (node : Node) : Type 0 where
   pub body : IsBody room t node.body
 
 -- the caller is one of the state
-pub caller_fits : {p : Geometry} {map : SectorMap} {processes : ProcessTable} {s : State} {pid : ℕ} {q : Process} {form : Form} {path : List ℕ} {f : Found}
-    → IsStateOf p map processes s → HasFound s pid q form path f → IsProcess s.tree q
-caller_fits {p} {map} {processes} {s} {pid} {q} at has = (at.is_state.processes at.up).each_process pid q has.there
+pub caller_fits : {p : Geometry} {map : SectorMap} {processes : ProcessTable} {s : State} {who : Who} {q : Process} {links : Bool} {form : Form} {path : List ℕ} {f : Found}
+    → IsStateOf p map processes s → HasFound s who q links form path f → IsProcess s.tree q
+caller_fits {p} {map} {processes} {s} {who} {q} at has = stands_fits s who q at.is_state at.up has.there
 
 -- what a call asks that makes something, after what it asks of the name
 abbrev pub space_at : Scene → List Demand
@@ -174,7 +177,7 @@ module _ {p : Geometry} {map : SectorMap} {processes : ProcessTable} {s : State}
     pub space_met : first_of (make_asked p map q.cred s.tree f.dir_ino (f.step - 1)) ≡ None → first_of (asked ++ space) ≡ None
     space_met h = all_met asked space met (ap first_of space_is ∙ h)
 
-  module _ {pid : ℕ} {form : Form} {path : List ℕ} (has : HasFound s pid q form path f) (bytes : IsBytes path) (none : f.ino ≡ None) where
+  module _ {who : Who} {links : Bool} {form : Form} {path : List ℕ} (has : HasFound s who q links form path f) (bytes : IsBytes path) (none : f.ino ≡ None) where
     pub name_is_new : IsNameAt s.room s.tree f.dir_ino f.name None
     name_is_new = found_new at has bytes none
 
@@ -246,12 +249,12 @@ module _ {p : Geometry} {map : SectorMap} {processes : ProcessTable} {s : State}
 
 -- ---- a call that makes something, by its row
 
-module _ {pid : ℕ} {call : Call} {checks : Checked} {path : List ℕ} (asked : Found → List Demand) {effect : Scene → ℕ → Effect}
-    (is : WalksPath call checks Parent path (λ x. asked x.first ++ space_at x) effect) {p : Geometry} {old mid : TxnState} {processes : ProcessTable} {q : Process} {f : Found}
-    (same : IsUnchanged old mid) (w : HasWalked p mid processes pid checks Parent path q f) where
+module _ {who : Who} {call : Call} {checks : Checked} {path : List ℕ} (asked : Found → List Demand) {effect : Scene → ℕ → Effect}
+    (is : WalksPath who call checks false Parent path (λ x. asked x.first ++ space_at x) effect) {p : Geometry} {old mid : TxnState} {processes : ProcessTable} {q : Process} {f : Found}
+    (same : IsUnchanged old mid) (w : HasWalked p mid processes who checks false Parent path q f) where
   -- the name isn't new
   pub name_refused : {time : ℕ} (r : Result Reply Refusal) (e : Refusal) → IsErr r × IsErrAnd r (λ y. y ≡ e) → {d : Demand} → Refuses d (first_of (asked f)) → checked d ≡ Err e
-      → Performs p time pid call old mid processes processes r
+      → Performs p time who call old mid processes processes r
   name_refused r e err {d} refuses is_refused = asked_refused is same w mid r e err.0 err.1 store_same {A = Unit {0}} tt
       (λ s has at.
       inl (ap checked
@@ -268,21 +271,21 @@ module _ {pid : ℕ} {call : Call} {checks : Checked} {path : List ℕ} (asked :
     pub made_refused : {time : ℕ} (r : Result Reply Refusal) (e : Refusal) → IsErr r × IsErrAnd r (λ y. y ≡ e) → SameStore mid new → first_of (asked f) ≡ None
         → ((t : Tree) → HoldsTree p mid.sectors t → IsNewIn p t f.dir_ino f.name
         → IsAnswered mid.disk new.disk (refused_or {A = Unit {0}} (first_of (make_asked p mid.sectors q.cred t f.dir_ino (f.step - 1))) (Ok tt)) (Err e))
-        → Performs p time pid call old new processes processes r
+        → Performs p time who call old new processes processes r
     made_refused r e err store met each = asked_refused is same w new r e err.0 err.1 store {A = Unit {0}} tt
         (λ s has at. space_refused at q f (asked f) met e mid.disk new.disk (each s.tree (state_tree at) (new_in at q f has w.bytes none)))
 
   -- the object is made, at this number
   module _ (none : f.ino ≡ None) (last : TxnState) (n : ℕ) (node : Tree → Node)
       (each : (t : Tree) → HoldsTree p mid.sectors t → IsNewIn p t f.dir_ino f.name → IsMade p mid last q.cred t f (node t) (Ok n))
-      (says : (s : State) → HasFound s pid q Parent path f → IsStateOf p mid.sectors processes s → first_of (make_asked p mid.sectors q.cred s.tree f.dir_ino (f.step - 1)) ≡ None
+      (says : (s : State) → HasFound s who q false Parent path f → IsStateOf p mid.sectors processes s → first_of (make_asked p mid.sectors q.cred s.tree f.dir_ino (f.step - 1)) ≡ None
       → MakesNode p f.dir_ino f.name n (node s.tree) mid.sectors last.sectors
       → IsChange p last.sectors processes s q (asked f ++ space_at (scene_at s q f)) (effect (scene_at s q f)) Done ((f.dir_ino, Modified) ∷ (n, Born) ∷ [])) where
-    made_at : (s : State) → IsStateOf p mid.sectors processes s → HasFound s pid q Parent path f
+    made_at : (s : State) → IsStateOf p mid.sectors processes s → HasFound s who q false Parent path f
         → (first_of (make_asked p mid.sectors q.cred s.tree f.dir_ino (f.step - 1)) ≡ None) × MakesNode p f.dir_ino f.name n (node s.tree) mid.sectors last.sectors
     made_at s at has = each s.tree (state_tree at) (new_in at q f has w.bytes none)
 
-    made_change : (s : State) → HasFound s pid q Parent path f → IsStateOf p mid.sectors processes s
+    made_change : (s : State) → HasFound s who q false Parent path f → IsStateOf p mid.sectors processes s
         → IsChange p last.sectors processes s q (asked f ++ space_at (scene_at s q f)) (effect (scene_at s q f)) Done ((f.dir_ino, Modified) ∷ (n, Born) ∷ [])
     made_change s has at = let m = made_at s at has in says s has at m.0 m.1
 
@@ -298,7 +301,7 @@ module _ {pid : ℕ} {call : Call} {checks : Checked} {path : List ℕ} (asked :
         k taken (omega (arith, few))
 
     -- and it is done
-    pub made_done : {time : ℕ} {new : TxnState} → SameStore mid last → MovesTimes p time ((f.dir_ino, Modified) ∷ (n, Born) ∷ []) last new → Performs p time pid call old new processes processes (Ok Done)
+    pub made_done : {time : ℕ} {new : TxnState} → SameStore mid last → MovesTimes p time ((f.dir_ino, Modified) ∷ (n, Born) ∷ []) last new → Performs p time who call old new processes processes (Ok Done)
     made_done store moved =
         let ready = w.ready in
         let done = (made_at ready.state ready.is_state (w.found ready.state ready.is_state)).1 in

@@ -1,4 +1,6 @@
 -- What the caller owns of what it has found, as its inode says it.
+use Rattle.std.specs.Prelude.{Bool}
+use Rattle.call_parts.specs.Callers.{Who}
 use Rattle.std.specs.Prelude.{◌≡◌, ◌≢◌, ℕ, ◌<◌, ◌^◌, List, [], ◌∷◌, ◌++◌, Option, None, Some, unwrap_or, Ok, Err}
 use Rattle.std.proofs.Common.{refl, sym, ap, subst, ◌∙◌, inl, inr}
 use Rattle.sector_disk.specs.Disk.{DiskState}
@@ -84,8 +86,8 @@ node_of {p} {map} {t} h f n v is inode there =
 
 -- ---- to own it is asked
 
-module _ {p : Geometry} {map : SectorMap} {processes : ProcessTable} {s : State} {pid : ℕ} {q : Process} {form : Form} {path : List ℕ} {f : Found} {n : ℕ} {v : Inode}
-    (at : IsStateOf p map processes s) (has : HasFound s pid q form path f) (i : IsInodeFound p map f n v) where
+module _ {p : Geometry} {map : SectorMap} {processes : ProcessTable} {s : State} {who : Who} {q : Process} {links : Bool} {form : Form} {path : List ℕ} {f : Found} {n : ℕ} {v : Inode}
+    (at : IsStateOf p map processes s) (has : HasFound s who q links form path f) (i : IsInodeFound p map f n v) where
   pub found_node : IsNode p.version map s.tree f n v
   found_node = node_of (state_tree at) f n v i.number i.inode (found_there n at has i.some)
 
@@ -114,8 +116,8 @@ owner_rest owner group s q f =
 pub owner_given : (v : Inode) (uid gid : ℕ) → FitsInode v → v.kind ≢ kinds.Free → uid < 2 ^ 32 → gid < 2 ^ 32 → FitsInode (record v { uid = uid; gid = gid })
 owner_given v uid gid fits used u g = attributes_fit v uid gid v.names v.parent fits used u g fits.names fits.parent
 
-module _ {p : Geometry} {map : SectorMap} {processes : ProcessTable} {s : State} {pid : ℕ} {q : Process} {form : Form} {path : List ℕ} {f : Found} {n : ℕ} {v : Inode}
-    (at : IsStateOf p map processes s) (has : HasFound s pid q form path f) (i : IsInodeFound p map f n v) where
+module _ {p : Geometry} {map : SectorMap} {processes : ProcessTable} {s : State} {who : Who} {q : Process} {links : Bool} {form : Form} {path : List ℕ} {f : Found} {n : ℕ} {v : Inode}
+    (at : IsStateOf p map processes s) (has : HasFound s who q links form path f) (i : IsInodeFound p map f n v) where
   module _ (owner group : Option ℕ) (uid gid : ℕ) (uid_is : uid ≡ unwrap_or owner v.uid) (gid_is : gid ≡ unwrap_or group v.gid) where
     owner_is : chown_demands owner group (scene_at s q f) ≡ must_be_there f ∷ owner_asked q.cred v.uid v.gid uid gid f.step
     owner_is =

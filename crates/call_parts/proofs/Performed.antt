@@ -1,6 +1,7 @@
 -- Calls of processes, each handed to its function.
 --     performed        what that promises of its call, of the call that was matched
 --     performed_for        the same of a caller that was made of who asks
+use Rattle.call_parts.specs.Callers.{Who}
 use Rattle.std.specs.Prelude.{◌≡◌, ℕ, Result}
 use Rattle.std.proofs.Common.{sym, subst}
 use Rattle.fs_layout.specs.declared.geometry.Geometry.{Geometry}
@@ -10,13 +11,18 @@ use Rattle.fs_model.specs.declared.call.Call.{Call}
 use Rattle.fs_model.specs.declared.reply.Reply.{Reply}
 use Rattle.fs_model.specs.Processes.{ProcessTable}
 use Rattle.call_parts.specs.declared.reaching.Caller.{Caller}
-use Rattle.call_parts.specs.Performing.{Performs, PerformsFor}
+use Rattle.call_parts.specs.Performing.{Performs, PerformsBy, PerformsFor}
 
-pub performed : (p : Geometry) (time pid : ℕ) (call this : Call) (old new : TxnState) (before now : ProcessTable) (result : Result Reply Refusal) → call ≡ this
-    → Performs p time pid this old new before now result → Performs p time pid call old new before now result
-performed p time pid call this old new before now result is h = subst (λ (q : Call). Performs p time pid q old new before now result) (sym is) h
+pub performed : (p : Geometry) (time : ℕ) (who : Who) (call this : Call) (old new : TxnState) (before now : ProcessTable) (result : Result Reply Refusal) → call ≡ this
+    → Performs p time who this old new before now result → Performs p time who call old new before now result
+performed p time who call this old new before now result is h = subst (λ (q : Call). Performs p time who q old new before now result) (sym is) h
 
 pub performed_for : {made caller : Caller} {call this : Call} {old new : TxnState} {result : Result Reply Refusal} → made ≡ caller → call ≡ this
     → PerformsFor made this old new result → PerformsFor caller call old new result
 performed_for {made} {caller} {call} {this} {old} {new} {result} same is h =
     subst (λ (c : Caller). PerformsFor c call old new result) same (subst (λ (q : Call). PerformsFor made q old new result) (sym is) h)
+
+pub performed_by : {made caller : Caller} {who : Who} {call this : Call} {old new : TxnState} {result : Result Reply Refusal} → made ≡ caller → call ≡ this
+    → PerformsBy made who this old new result → PerformsBy caller who call old new result
+performed_by {made} {caller} {who} {call} {this} {old} {new} {result} same is h =
+    subst (λ (c : Caller). PerformsBy c who call old new result) same (subst (λ (q : Call). PerformsBy made who q old new result) (sym is) h)

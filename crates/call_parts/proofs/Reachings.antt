@@ -7,7 +7,7 @@
 --     asked_refused, asked_broken, broken_later        what it asks of what was found refuses, or the disk fails
 --     told, changed, process_changed        it answers, or has changed the tree, or its process alone
 --     ready_kept, walk_kept, inode_later, walked_below, reached_below, reached_there, reached_used, reached_access, reached_body        what is known then
-use Rattle.std.specs.Prelude.{◌≡◌, ◌≢◌, ℕ, ◌<◌, ◌==◌, List, [], ◌∷◌, ◌++◌, None, Some, IsTrue, Result, Ok, Err, IsErr, IsErrAnd}
+use Rattle.std.specs.Prelude.{◌≡◌, ◌≢◌, ℕ, ◌<◌, ◌==◌, Bool, false, List, [], ◌∷◌, ◌++◌, None, Some, IsTrue, Result, Ok, Err, IsErr, IsErrAnd}
 use Rattle.std.specs.List.{list_any}
 use Rattle.std.specs.Ordering.{nat_cmp}
 use Rattle.std.proofs.Common.{sym, ap, subst, ◌∙◌, inr}
@@ -27,7 +27,6 @@ use Rattle.sector_txn.proofs.TransactionRuns.{store_joined}
 use Rattle.bit_alloc.proofs.Transactions.{spare_unchanged, unchanged_nothing}
 use Rattle.block_map.proofs.Runs.{unchanged_joined}
 use Rattle.fs_model.specs.declared.call.Call.{Call}
-use Rattle.fs_model.specs.declared.event.Event.TheVariants.{Call as Calls}
 use Rattle.fs_model.specs.declared.reply.Reply.{Reply}
 use Rattle.fs_model.specs.declared.walk.Form.{Form}
 use Rattle.fs_model.specs.declared.walk.Form.TheVariants.{Follow}
@@ -35,29 +34,28 @@ use Rattle.fs_model.specs.declared.walk.Found.{Found}
 use Rattle.fs_model.specs.declared.touch.Touch.{Touch}
 use Rattle.fs_model.specs.TreeChanges.{Same}
 use Rattle.fs_model.specs.Demands.{Demand, or_else, first_of}
-use Rattle.fs_model.specs.Parts.{path_checks}
 use Rattle.fs_model.specs.Processes.{Process, ProcessTable, Descriptor, is_open}
 use Rattle.fs_model.specs.Scenes.{Scene, Effect, answers, with_process, must_be_there, own_at_end}
 use Rattle.fs_model.specs.Stands.{HoldsAll, placed, room_of}
 use Rattle.fs_model.specs.States.{State}
-use Rattle.fs_model.specs.Steps.{after_effect, early_refusal, firm_refusal, other_refusal}
+use Rattle.fs_model.specs.Steps.{after_effect, firm_refusal, other_refusal}
 use Rattle.fs_model.specs.Trees.{Room, Tree}
-use Rattle.fs_model.proofs.Unchanged.{same_process_stays, open_stays}
+use Rattle.fs_model.proofs.Unchanged.{open_stays}
 use Rattle.path_walk.specs.Answers.{refused_or, FailsToRead, IsAnswered}
 use Rattle.path_walk.specs.HeldTrees.{IsThere, HasAccess, HoldsTree}
-use Rattle.path_walk.specs.Walked.{walk_of}
 use Rattle.path_walk.proofs.HeldNodes.{number_below}
 use Rattle.path_walk.proofs.Kept.{kept, kept_back, sound_kept, same_map, interrupts_later}
 use Rattle.call_parts.specs.Asked.{own_asked}
 use Rattle.call_parts.specs.Given.{HasBody}
-use Rattle.call_parts.specs.Paths.{scene_at, HasFound}
+use Rattle.call_parts.specs.Paths.{scene_at, walk_by, HasFound}
 use Rattle.call_parts.specs.Performing.{IsStateOf, MayPerform, IsRefused, Performs}
 use Rattle.call_parts.specs.Performing as why
 use Rattle.call_parts.specs.Telling.{Checked, checked}
 use Rattle.call_parts.specs.Reaching.{WalksPath, RefusesWalk, RefusesReach, RefusesOwned, HasWalked, IsInodeFound, HasReached}
 use Rattle.call_parts.proofs.ByDescriptor.{still_open}
 use Rattle.call_parts.proofs.ByPath.{refused_performs}
-use Rattle.call_parts.proofs.Calling.{absent_refused, early_is, first_of-append, or_else-none, refused_err, met_ok, resolve_refused, found_firm, found_late, found_after, found_told, found_there, answered_refused, answered_later, first_asked, state_kept, state_tree, same_process, cwd_there, resolved, told_performs}
+use Rattle.call_parts.specs.Callers.{Who, ByProcess, event, IsJudgedAs, IsAbsent, path_asked, left_by}
+use Rattle.call_parts.proofs.Calling.{absent_refused, refused_err, met_ok, path_firm, resolve_refused, found_firm, found_late, found_after, found_told, found_there, left_same, answered_refused, answered_later, first_asked, state_kept, state_tree, same_caller, resolved, told_performs}
 use Rattle.call_parts.specs.Times.{MovesTimes}
 use Rattle.call_parts.proofs.Changed.{IsChange, times_moved}
 use Rattle.call_parts.proofs.Followed.{IsAccessed, followed_access, access_held, body_found_held}
@@ -79,43 +77,39 @@ inode_later {p} {mid} {new} {f} {n} {v} same i = kept (λ (m : SectorMap). IsIno
 -- ---- each call that walks so is refused
 
 -- there is no such process
-pub absent_walk : {p : Geometry} {map : SectorMap} {processes : ProcessTable} {s : State} → IsStateOf p map processes s → (old new : DiskState) (pid : ℕ) (checks : Checked) (form : Form) (path : List ℕ)
-    (errno : Errno) → (errno ≡ ESRCH) × (get nat_cmp processes pid ≡ None) → RefusesWalk old new s pid checks form path (Failed errno)
-absent_walk at old new pid checks form path errno none = record { each = λ call demands effect w. absent_refused at old new pid call errno none }
+pub absent_walk : {p : Geometry} {map : SectorMap} {processes : ProcessTable} {s : State} → IsStateOf p map processes s → (old new : DiskState) (who : Who) (checks : Checked) (links : Bool) (form : Form) (path : List ℕ)
+    (errno : Errno) → (errno ≡ ESRCH) × IsAbsent processes who → RefusesWalk old new s who checks links form path (Failed errno)
+absent_walk at old new who checks links form path errno none = record { each = λ call demands effect w. absent_refused at old new who call errno none }
 
-module _ (old new : DiskState) (s : State) (pid : ℕ) (q : Process) (there : get nat_cmp s.processes pid ≡ Some q) (checks : Checked) (form : Form) (path : List ℕ) (e : Refusal) where
+module _ (old new : DiskState) (s : State) (who : Who) (q : Process) (there : IsJudgedAs s.processes who q) (checks : Checked) (links : Bool) (form : Form) (path : List ℕ) (e : Refusal) where
   -- an argument is refused
-  pub unchecked_walk : checks ≡ Err e → RefusesWalk old new s pid checks form path e
+  pub unchecked_walk : checks ≡ Err e → RefusesWalk old new s who checks links form path e
   unchecked_walk is = record {
     each = λ call demands effect w.
-        why.early (early_is s pid q call there ∙ ap (early_refusal q) w.row
-        ∙ first_of-append (w.arguments ++ path_checks path) []
-        ∙ or_else-none (first_of (w.arguments ++ path_checks path))
-        ∙ first_of-append w.arguments (path_checks path)
-        ∙ ap (λ (d : Demand). or_else d (first_of (path_checks path))) (refused_err {A = Unit {0}} (first_of w.arguments) tt e (sym w.are_checked ∙ is)));
+        why.early (path_firm s q call links form path w.arguments demands effect w.row who there w.may
+        ∙ ap (λ (d : Demand). or_else d (first_of (path_asked who path))) (refused_err {A = Unit {0}} (first_of w.arguments) tt e (sym w.are_checked ∙ is)));
   }
 
   -- or the path, or its walk
-  unwalked : checks ≡ Ok tt → ((x : Refusal) → first_of (path_checks path) ≡ Some x → e ≡ x)
-      → (first_of (path_checks path) ≡ None → IsAnswered old new (walk_of s.room s.tree q.cred 1 form q.cwd path) (Err e)) → RefusesWalk old new s pid checks form path e
+  unwalked : checks ≡ Ok tt → ((x : Refusal) → first_of (path_asked who path) ≡ Some x → e ≡ x)
+      → (first_of (path_asked who path) ≡ None → IsAnswered old new (walk_by s who q links form path) (Err e)) → RefusesWalk old new s who checks links form path e
   unwalked fine path_is walk_is = record {
     each = λ call demands effect w.
-        resolve_refused s pid q call form path w.arguments demands effect w.row (met_ok {A = Unit {0}} (first_of w.arguments) tt tt (sym w.are_checked ∙ fine)).0
-        there old new e w.asks path_is walk_is;
+        resolve_refused s who q call links form path w.arguments demands effect w.row (met_ok {A = Unit {0}} (first_of w.arguments) tt tt (sym w.are_checked ∙ fine)).0
+        w.may there old new e w.asks path_is walk_is;
   }
 
-module _ {p : Geometry} (old new : TxnState) {processes : ProcessTable} {pid : ℕ} {q : Process} {checks : Checked} (there : get nat_cmp processes pid ≡ Some q) (fine : checks ≡ Ok tt)
-    (form : Form) (path : List ℕ) where
-  pub walk_denied : (e : Refusal) → ((x : Refusal) → first_of (path_checks path) ≡ Some x → e ≡ x)
-      → (first_of (path_checks path) ≡ None → (t : Tree) → HoldsTree p old.sectors t → IsThere t q.cwd → IsAnswered old.disk new.disk (walk_of (room_of p) t q.cred 1 form q.cwd path) (Err e))
-      → (s : State) → IsStateOf p old.sectors processes s → RefusesWalk old.disk new.disk s pid checks form path e
+module _ {p : Geometry} (old new : TxnState) {processes : ProcessTable} {who : Who} (q : Process) {checks : Checked} (there : IsJudgedAs processes who q) (fine : checks ≡ Ok tt)
+    (links : Bool) (form : Form) (path : List ℕ) where
+  pub walk_denied : (e : Refusal) → ((x : Refusal) → first_of (path_asked who path) ≡ Some x → e ≡ x)
+      → (first_of (path_asked who path) ≡ None → (s : State) → IsStateOf p old.sectors processes s → IsAnswered old.disk new.disk (walk_by s who q links form path) (Err e))
+      → (s : State) → IsStateOf p old.sectors processes s → RefusesWalk old.disk new.disk s who checks links form path e
   walk_denied e unfit each s at =
-      unwalked old.disk new.disk s pid q (same_process at pid q there) checks form path e fine unfit
-      (λ fit. subst (λ (r : Room). IsAnswered old.disk new.disk (walk_of r s.tree q.cred 1 form q.cwd path) (Err e)) (sym at.same_room) (each fit s.tree (state_tree at) (cwd_there at pid q there)))
+      unwalked old.disk new.disk s who q (same_caller at who q there) checks links form path e fine unfit (λ fit. each fit s at)
 
-  pub walk_found : {f : Found} → MayPerform p old processes → IsBytes path → IsUnchanged old new → first_of (path_checks path) ≡ None
-      → ((t : Tree) → HoldsTree p old.sectors t → IsThere t q.cwd → IsAnswered old.disk new.disk (walk_of (room_of p) t q.cred 1 form q.cwd path) (Ok f))
-      → HasWalked p new processes pid checks form path q f
+  pub walk_found : {f : Found} → MayPerform p old processes → IsBytes path → IsUnchanged old new → first_of (path_asked who path) ≡ None
+      → ((s : State) → IsStateOf p old.sectors processes s → IsAnswered old.disk new.disk (walk_by s who q links form path) (Ok f))
+      → HasWalked p new processes who checks links form path q f
   walk_found {f} ready bytes same fit each = record {
     ready = ready_kept same ready;
     there = there;
@@ -123,85 +117,83 @@ module _ {p : Geometry} (old new : TxnState) {processes : ProcessTable} {pid : �
     bytes = bytes;
     found = λ s at.
         let before = kept_back (λ (m : SectorMap). IsStateOf p m processes s) same at in
-        resolved old.disk new.disk f (same_process before pid q there) fit
-        (subst (λ (r : Room). IsAnswered old.disk new.disk (walk_of r s.tree q.cred 1 form q.cwd path) (Ok f)) (sym before.same_room)
-        (each s.tree (state_tree before) (cwd_there before pid q there)));
+        resolved old.disk new.disk f (same_caller before who q there) fit (each s before);
   }
 
 -- nothing is there
-pub walk_reaches : {old new : DiskState} {s : State} {pid : ℕ} {checks : Checked} {form : Form} {path : List ℕ} {e : Refusal}
-    → RefusesWalk old new s pid checks form path e → RefusesReach old new s pid checks form path e
+pub walk_reaches : {old new : DiskState} {s : State} {who : Who} {checks : Checked} {links : Bool} {form : Form} {path : List ℕ} {e : Refusal}
+    → RefusesWalk old new s who checks links form path e → RefusesReach old new s who checks links form path e
 walk_reaches refuses = record { each = λ call rest effect w. refuses.each call (λ x. must_be_there x.first ∷ rest x) effect w }
 
 -- ---- a call that walks so
 
-module _ {pid : ℕ} {call : Call} {checks : Checked} {form : Form} {path : List ℕ} {demands : Scene → List Demand} {effect : Scene → ℕ → Effect}
-    (is : WalksPath call checks form path demands effect) {p : Geometry} where
+module _ {who : Who} {call : Call} {checks : Checked} {links : Bool} {form : Form} {path : List ℕ} {demands : Scene → List Demand} {effect : Scene → ℕ → Effect}
+    (is : WalksPath who call checks links form path demands effect) {p : Geometry} where
   -- the refusal of the walk is passed on
   pub walk_refused : {time : ℕ} {old new : TxnState} {processes : ProcessTable} (r : Result Reply Refusal) (e : Refusal) → IsErr r → IsErrAnd r (λ y. y ≡ e) → IsUnchanged old new
-      → ((s : State) → IsStateOf p old.sectors processes s → RefusesWalk old.disk new.disk s pid checks form path e) → Performs p time pid call old new processes processes r
+      → ((s : State) → IsStateOf p old.sectors processes s → RefusesWalk old.disk new.disk s who checks links form path e) → Performs p time who call old new processes processes r
   walk_refused r e err and same refuses = refused_performs r e err and same.store (λ s at. (refuses s at).each call demands effect is)
 
-  module _ {old mid : TxnState} (same : IsUnchanged old mid) {processes : ProcessTable} {q : Process} {f : Found} (w : HasWalked p mid processes pid checks form path q f) where
+  module _ {old mid : TxnState} (same : IsUnchanged old mid) {processes : ProcessTable} {q : Process} {f : Found} (w : HasWalked p mid processes who checks links form path q f) where
     met : first_of is.arguments ≡ None
     met = (met_ok {A = Unit {0}} (first_of is.arguments) tt tt (sym is.are_checked ∙ w.fine)).0
 
     module _ (s : State) (at : IsStateOf p old.sectors processes s) where
-      has : HasFound s pid q form path f
+      has : HasFound s who q links form path f
       has = w.found s (state_kept same at)
 
-      here : get nat_cmp s.processes pid ≡ Some q
-      here = same_process at pid q w.there
+      here : IsJudgedAs s.processes who q
+      here = same_caller at who q w.there
 
-      pub firm : firm_refusal s (Calls pid call) ≡ None
-      firm = found_firm s pid q call form path is.arguments demands effect is.row met here f has
+      pub firm : firm_refusal s (event who call) ≡ None
+      firm = found_firm s who q call links form path is.arguments demands effect is.row met is.may here f has
 
-      pub late : other_refusal s (Calls pid call) ≡ first_of (demands (scene_at s q f))
-      late = found_late s pid q call form path is.arguments demands effect is.row met here f has
+      pub late : other_refusal s (event who call) ≡ first_of (demands (scene_at s q f))
+      late = found_late s who q call links form path is.arguments demands effect is.row met is.may here f has
 
       refused_since : (new : DiskState) (e : Refusal) {A : Type 0} (x : A)
-          → IsAnswered mid.disk new (refused_or (first_of (demands (scene_at s q f))) (Ok x)) (Err e) → IsRefused old.disk new s pid call e
+          → IsAnswered mid.disk new (refused_or (first_of (demands (scene_at s q f))) (Ok x)) (Err e) → IsRefused old.disk new s who call e
       refused_since new e x h =
-          answered_refused old.disk new s pid call firm is.asks e (first_of (demands (scene_at s q f))) x late (answered_later new same h)
+          answered_refused old.disk new s who call firm is.asks e (first_of (demands (scene_at s q f))) x late (answered_later new same h)
 
     -- what it asks of what was found refuses
     pub asked_refused : {time : ℕ} (new : TxnState) (r : Result Reply Refusal) (e : Refusal) → IsErr r → IsErrAnd r (λ y. y ≡ e) → SameStore mid new → {A : Type 0} (x : A)
-        → ((s : State) → HasFound s pid q form path f → IsStateOf p mid.sectors processes s
+        → ((s : State) → HasFound s who q links form path f → IsStateOf p mid.sectors processes s
         → IsAnswered mid.disk new.disk (refused_or (first_of (demands (scene_at s q f))) (Ok x)) (Err e))
-        → Performs p time pid call old new processes processes r
+        → Performs p time who call old new processes processes r
     asked_refused new r e err and store x asked = refused_performs r e err and (store_joined same.store store)
         (λ s at. refused_since s at new.disk e x (asked s (has s at) (state_kept same at)))
 
     -- or a fault, in what it does after that
     pub asked_broken : {time : ℕ} {last : TxnState} (new : TxnState) (r : Result Reply Refusal) (e : Refusal) → IsErr r × IsErrAnd r (λ y. y ≡ e) → IsUnchanged mid last → SameStore last new
-        → FailsToRead last.disk new.disk e → Performs p time pid call old new processes processes r
+        → FailsToRead last.disk new.disk e → Performs p time who call old new processes processes r
     asked_broken {last} new r e err later store fault =
         asked_refused new r e err.0 err.1 (store_joined later.store store) {A = ℕ} 0 (λ s has at. inr (interrupts_later new.disk later (inr fault)))
 
     -- or a fault, after the call has changed the tree
     pub broken_later : {time : ℕ} {last : TxnState} (new : TxnState) (r : Result Reply Refusal) (e : Refusal) → IsErr r × IsErrAnd r (λ y. y ≡ e) → SameStore mid last → SameStore last new
-        → FailsToRead last.disk new.disk e → Performs p time pid call old new processes processes r
+        → FailsToRead last.disk new.disk e → Performs p time who call old new processes processes r
     broken_later {last} new r e err first store fault = asked_refused new r e err.0 err.1 (store_joined first store) {A = ℕ} 0
         (λ s has at. inr (inr (fault.0, failed_later mid.disk last.disk new.disk first.reads.failures fault.1)))
 
     -- the call answers
     pub told : {time : ℕ} (new : TxnState) → IsUnchanged mid new → (reply : Reply)
-        → ((s : State) → HasFound s pid q form path f → IsStateOf p mid.sectors processes s
+        → ((s : State) → HasFound s who q links form path f → IsStateOf p mid.sectors processes s
         → (first_of (demands (scene_at s q f)) ≡ None) × (effect (scene_at s q f) 0 ≡ answers (scene_at s q f) reply))
-        → Performs p time pid call old new processes processes (Ok reply)
+        → Performs p time who call old new processes processes (Ok reply)
     told new later reply says = told_performs (Ok reply) (unchanged_joined same later)
         (λ s at.
         let t = says s (has s at) (state_kept same at) in (
           firm s at,
           late s at ∙ t.0,
-          found_told s pid q call form path is.arguments demands effect is.row met (here s at) f (has s at) reply at t.1,
+          found_told s who q call links form path is.arguments demands effect is.row met is.may (here s at) f (has s at) reply at t.1,
         ))
 
     -- the call has changed the tree, and then its times have moved
     pub changed : {time : ℕ} (last : TxnState) {new : TxnState} {touches : List (ℕ × Touch)} → SameStore mid last → last.sectors 0 ≡ mid.sectors 0 → MovesTimes p time touches last new → (reply : Reply)
-        → ((s : State) → HasFound s pid q form path f → IsStateOf p mid.sectors processes s
+        → ((s : State) → HasFound s who q links form path f → IsStateOf p mid.sectors processes s
         → IsChange p last.sectors processes s q (demands (scene_at s q f)) (effect (scene_at s q f)) reply touches)
-        → Performs p time pid call old new processes processes (Ok reply)
+        → Performs p time who call old new processes processes (Ok reply)
     changed last store super moved reply changes = record {
       store = store_joined same.store (store_joined store moved.store);
       super = moved.super ∙ super ∙ same.sectors 0;
@@ -213,61 +205,64 @@ module _ {pid : ℕ} {call : Call} {checks : Checked} {form : Form} {path : List
             late = late s at ∙ c.met;
             number = c.number;
             change = c.change;
-            effect = found_after s pid q call form path is.arguments demands effect is.row met (here s at) f (has s at) c.number
-                ∙ ap (after_effect s pid) c.is
-                ∙ ap (λ (d : ProcessTable). record { change = c.change; processes = d; reply = reply; now = s.now })
-                (same_process_stays s.processes pid q at.is_state.pids (here s at) ∙ at.same_processes);
+            effect = found_after s who q call links form path is.arguments demands effect is.row met is.may (here s at) f (has s at) c.number
+                ∙ ap (left_by who s) c.is ∙ left_same at who q (here s at) c.change reply;
             new_number = c.new_number;
             holds = times_moved at c moved;
           };
     }
 
-    -- the process of the call alone has changed, and what it has open stays
-    pub process_changed : {time : ℕ} (new : TxnState) (now : ProcessTable) → IsUnchanged mid new → (r : Process) (reply : Reply) → now ≡ with_entry nat_cmp processes pid r
-        → r.descriptors ≡ q.descriptors
-        → ((s : State) → HasFound s pid q form path f → IsStateOf p mid.sectors processes s
-        → (first_of (demands (scene_at s q f)) ≡ None) × (effect (scene_at s q f) 0 ≡ with_process r reply))
-        → Performs p time pid call old new processes now (Ok reply)
-    process_changed new now later r reply is_now descriptors says =
-        let whole = unchanged_joined same later in
-        record {
-          store = whole.store;
-          super = whole.sectors 0;
-          table = tt;
-          each = λ s at.
-              let t = says s (has s at) (state_kept same at) in
-              let of_state : with_entry nat_cmp s.processes pid r ≡ now = ap (λ (d : ProcessTable). with_entry nat_cmp d pid r) at.same_processes ∙ sym is_now in
-              let still : (n : ℕ) → IsTrue (is_open s.processes n) → IsTrue (is_open now n) = λ n was.
-              ap (λ (d : ProcessTable). is_open d n) (sym of_state)
-              ∙ still_open s.processes pid q r at.is_state.pids (here s at) n (ap (λ (l : List (ℕ × Descriptor)). list_any (λ (d : ℕ × Descriptor). d.1.ino == n) l) descriptors) ∙ was in
-              record {
-                early = firm s at;
-                late = late s at ∙ t.0;
-                number = 0;
-                change = Same;
-                effect = found_after s pid q call form path is.arguments demands effect is.row met (here s at) f (has s at) 0
-                    ∙ ap (after_effect s pid) t.1
-                    ∙ ap (λ (d : ProcessTable). record { change = Same; processes = d; reply = reply; now = s.now }) of_state;
-                new_number = tt;
-                holds = subst (λ (x : Tree). HoldsAll p new.sectors (placed x))
-                    (sym (open_stays s.room s.tree s.processes now at.is_state.tree (at.is_state.processes at.up) still))
-                    (subst (λ (m : SectorMap). HoldsAll p m (placed s.tree)) (sym (same_map whole)) at.holds);
-              };
-        }
+-- the process of the call alone has changed, and what it has open stays
+module _ {pid : ℕ} {call : Call} {checks : Checked} {links : Bool} {form : Form} {path : List ℕ} {demands : Scene → List Demand} {effect : Scene → ℕ → Effect}
+    (is : WalksPath (ByProcess pid) call checks links form path demands effect) {p : Geometry} {old mid : TxnState} (same : IsUnchanged old mid) {processes : ProcessTable} {q : Process} {f : Found}
+    (w : HasWalked p mid processes (ByProcess pid) checks links form path q f) where
+  pub process_changed : {time : ℕ} (new : TxnState) (now : ProcessTable) → IsUnchanged mid new → (r : Process) (reply : Reply) → now ≡ with_entry nat_cmp processes pid r
+      → r.descriptors ≡ q.descriptors
+      → ((s : State) → HasFound s (ByProcess pid) q links form path f → IsStateOf p mid.sectors processes s
+      → (first_of (demands (scene_at s q f)) ≡ None) × (effect (scene_at s q f) 0 ≡ with_process r reply))
+      → Performs p time (ByProcess pid) call old new processes now (Ok reply)
+  process_changed new now later r reply is_now descriptors says =
+      let whole = unchanged_joined same later in
+      record {
+        store = whole.store;
+        super = whole.sectors 0;
+        table = tt;
+        each = λ s at.
+            let has = w.found s (state_kept same at) in
+            let here = same_caller at (ByProcess pid) q w.there in
+            let t = says s has (state_kept same at) in
+            let of_state : with_entry nat_cmp s.processes pid r ≡ now = ap (λ (d : ProcessTable). with_entry nat_cmp d pid r) at.same_processes ∙ sym is_now in
+            let still : (n : ℕ) → IsTrue (is_open s.processes n) → IsTrue (is_open now n) = λ n was.
+            ap (λ (d : ProcessTable). is_open d n) (sym of_state)
+            ∙ still_open s.processes pid q r at.is_state.pids here n (ap (λ (l : List (ℕ × Descriptor)). list_any (λ (d : ℕ × Descriptor). d.1.ino == n) l) descriptors) ∙ was in
+            record {
+              early = firm is same w s at;
+              late = late is same w s at ∙ t.0;
+              number = 0;
+              change = Same;
+              effect = found_after s (ByProcess pid) q call links form path is.arguments demands effect is.row (met is same w) is.may here f has 0
+                  ∙ ap (after_effect s pid) t.1
+                  ∙ ap (λ (d : ProcessTable). record { change = Same; processes = d; reply = reply; now = s.now }) of_state;
+              new_number = tt;
+              holds = subst (λ (x : Tree). HoldsAll p new.sectors (placed x))
+                  (sym (open_stays s.room s.tree s.processes now at.is_state.tree (at.is_state.processes at.up) still))
+                  (subst (λ (m : SectorMap). HoldsAll p m (placed s.tree)) (sym (same_map whole)) at.holds);
+            };
+      }
 
 -- ---- a call that asks that something is there
 
-module _ {pid : ℕ} {call : Call} {checks : Checked} {form : Form} {path : List ℕ} {rest : Scene → List Demand} {effect : Scene → ℕ → Effect}
-    (is : WalksPath call checks form path (λ x. must_be_there x.first ∷ rest x) effect) {p : Geometry} where
+module _ {who : Who} {call : Call} {checks : Checked} {links : Bool} {form : Form} {path : List ℕ} {rest : Scene → List Demand} {effect : Scene → ℕ → Effect}
+    (is : WalksPath who call checks links form path (λ x. must_be_there x.first ∷ rest x) effect) {p : Geometry} where
   pub reach_refused : {time : ℕ} {old new : TxnState} {processes : ProcessTable} (r : Result Reply Refusal) (e : Refusal) → IsErr r → IsErrAnd r (λ y. y ≡ e) → IsUnchanged old new
-      → ((s : State) → IsStateOf p old.sectors processes s → RefusesReach old.disk new.disk s pid checks form path e) → Performs p time pid call old new processes processes r
+      → ((s : State) → IsStateOf p old.sectors processes s → RefusesReach old.disk new.disk s who checks links form path e) → Performs p time who call old new processes processes r
   reach_refused r e err and same refuses = refused_performs r e err and same.store (λ s at. (refuses s at).each call rest effect is)
 
-module _ {p : Geometry} {processes : ProcessTable} {pid : ℕ} {checks : Checked} {form : Form} {path : List ℕ} {q : Process} {f : Found} where
+module _ {p : Geometry} {processes : ProcessTable} {who : Who} {checks : Checked} {links : Bool} {form : Form} {path : List ℕ} {q : Process} {f : Found} where
   -- nothing is there, or a read fails
-  pub unreached : {old mid : TxnState} (new : DiskState) (e : Refusal) {A : Type 0} (x : A) → IsUnchanged old mid → HasWalked p mid processes pid checks form path q f
+  pub unreached : {old mid : TxnState} (new : DiskState) (e : Refusal) {A : Type 0} (x : A) → IsUnchanged old mid → HasWalked p mid processes who checks links form path q f
       → IsAnswered mid.disk new (refused_or (must_be_there f) (Ok x)) (Err e)
-      → (s : State) → IsStateOf p old.sectors processes s → RefusesReach old.disk new s pid checks form path e
+      → (s : State) → IsStateOf p old.sectors processes s → RefusesReach old.disk new s who checks links form path e
   unreached {old} {mid} new e x same w h s at = record {
     each = λ call rest effect is.
         refused_since is same w s at new e x (first_asked (must_be_there f) (rest (scene_at s q f)) x x e mid.disk new h);
@@ -275,7 +270,7 @@ module _ {p : Geometry} {processes : ProcessTable} {pid : ℕ} {checks : Checked
 
   -- ---- what is known once it was reached
 
-  pub walk_kept : {mid new : TxnState} → IsUnchanged mid new → HasWalked p mid processes pid checks form path q f → HasWalked p new processes pid checks form path q f
+  pub walk_kept : {mid new : TxnState} → IsUnchanged mid new → HasWalked p mid processes who checks links form path q f → HasWalked p new processes who checks links form path q f
   walk_kept {mid} {new} same w = record {
     ready = ready_kept same w.ready;
     there = w.there;
@@ -284,10 +279,10 @@ module _ {p : Geometry} {processes : ProcessTable} {pid : ℕ} {checks : Checked
     found = λ s at. w.found s (kept_back (λ (m : SectorMap). IsStateOf p m processes s) same at);
   }
 
-  pub walked_below : {mid : TxnState} → HasWalked p mid processes pid checks form path q f → (n : ℕ) → f.ino ≡ Some n → n < p.inodes
+  pub walked_below : {mid : TxnState} → HasWalked p mid processes who checks links form path q f → (n : ℕ) → f.ino ≡ Some n → n < p.inodes
   walked_below w n is = let at = w.ready.is_state in number_below (state_tree at) n (found_there n at (w.found w.ready.state at) is)
 
-  module _ {mid : TxnState} {n : ℕ} {v : Inode} (r : HasReached p mid processes pid checks form path q f n v) where
+  module _ {mid : TxnState} {n : ℕ} {v : Inode} (r : HasReached p mid processes who checks links form path q f n v) where
     pub reached_below : n < p.inodes
     reached_below = walked_below r.walked n r.inode.some
 
@@ -302,21 +297,21 @@ module _ {p : Geometry} {processes : ProcessTable} {pid : ℕ} {checks : Checked
 
 -- ---- a call that asks that it is the caller's
 
-module _ {pid : ℕ} {call : Call} {checks : Checked} {form : Form} {path : List ℕ} {rest : Scene → List Demand} {effect : Scene → ℕ → Effect}
-    (is : WalksPath call checks form path (λ x. must_be_there x.first ∷ own_at_end x ∷ rest x) effect) {p : Geometry} where
+module _ {who : Who} {call : Call} {checks : Checked} {links : Bool} {form : Form} {path : List ℕ} {rest : Scene → List Demand} {effect : Scene → ℕ → Effect}
+    (is : WalksPath who call checks links form path (λ x. must_be_there x.first ∷ own_at_end x ∷ rest x) effect) {p : Geometry} where
   pub owned_refused : {time : ℕ} {old new : TxnState} {processes : ProcessTable} (r : Result Reply Refusal) (e : Refusal) → IsErr r → IsErrAnd r (λ y. y ≡ e) → IsUnchanged old new
-      → ((s : State) → IsStateOf p old.sectors processes s → RefusesOwned old.disk new.disk s pid checks form path e) → Performs p time pid call old new processes processes r
+      → ((s : State) → IsStateOf p old.sectors processes s → RefusesOwned old.disk new.disk s who checks links form path e) → Performs p time who call old new processes processes r
   owned_refused r e err and same refuses = refused_performs r e err and same.store (λ s at. (refuses s at).each call rest effect is)
 
-pub reach_owns : {old new : DiskState} {s : State} {pid : ℕ} {checks : Checked} {form : Form} {path : List ℕ} {e : Refusal}
-    → RefusesReach old new s pid checks form path e → RefusesOwned old new s pid checks form path e
+pub reach_owns : {old new : DiskState} {s : State} {who : Who} {checks : Checked} {links : Bool} {form : Form} {path : List ℕ} {e : Refusal}
+    → RefusesReach old new s who checks links form path e → RefusesOwned old new s who checks links form path e
 reach_owns refuses = record { each = λ call rest effect w. refuses.each call (λ x. own_at_end x ∷ rest x) effect w }
 
 -- what was found isn't the caller's
-pub unowned : {p : Geometry} {old mid : TxnState} {processes : ProcessTable} {pid : ℕ} {checks : Checked} {form : Form} {path : List ℕ} {q : Process} {f : Found} {n : ℕ} {v : Inode}
-    (e : Refusal) → IsUnchanged old mid → HasReached p mid processes pid checks form path q f n v → checked (own_asked q.cred v.uid f.step) ≡ Err e
-    → (s : State) → IsStateOf p old.sectors processes s → RefusesOwned old.disk mid.disk s pid checks form path e
-unowned {p} {old} {mid} {processes} {pid} {checks} {form} {path} {q} {f} {n} {v} e same r refuses s at = record {
+pub unowned : {p : Geometry} {old mid : TxnState} {processes : ProcessTable} {who : Who} {checks : Checked} {links : Bool} {form : Form} {path : List ℕ} {q : Process} {f : Found} {n : ℕ} {v : Inode}
+    (e : Refusal) → IsUnchanged old mid → HasReached p mid processes who checks links form path q f n v → checked (own_asked q.cred v.uid f.step) ≡ Err e
+    → (s : State) → IsStateOf p old.sectors processes s → RefusesOwned old.disk mid.disk s who checks links form path e
+unowned {p} {old} {mid} {processes} {who} {checks} {form} {path} {q} {f} {n} {v} e same r refuses s at = record {
   each = λ call rest effect is.
       let later = state_kept same at in
       refused_since is same r.walked s at mid.disk e {A = Unit {0}} tt
@@ -324,8 +319,8 @@ unowned {p} {old} {mid} {processes} {pid} {checks} {form} {path} {q} {f} {n} {v}
 }
 
 -- what a link at the end was followed to, as access to it is decided
-module _ {p : Geometry} {processes : ProcessTable} {pid : ℕ} {checks : Checked} {path : List ℕ} {q : Process} {f : Found} {mid : TxnState} {n : ℕ} {v : Inode}
-    (r : HasReached p mid processes pid checks Follow path q f n v) where
+module _ {p : Geometry} {processes : ProcessTable} {who : Who} {checks : Checked} {path : List ℕ} {q : Process} {f : Found} {mid : TxnState} {n : ℕ} {v : Inode}
+    (r : HasReached p mid processes who checks false Follow path q f n v) where
   abbrev pub accessed : IsAccessed r.walked.ready.state.tree n
   accessed = let at = r.walked.ready.is_state in followed_access n at (r.walked.found r.walked.ready.state at) r.inode.some
 

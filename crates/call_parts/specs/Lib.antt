@@ -1,3 +1,5 @@
+pub mod Callers
+pub mod Types
 pub mod Performing
 pub mod Paths
 pub mod Asked

@@ -4,7 +4,7 @@
 --     IsDone        nothing refuses the call, and the map holds the tree after it
 --     IsRefused        why the call is refused
 --     Performs        the whole
---     IsReadyFor, PerformsFor        the same of a caller, and of a call that leaves all processes as they are
+--     IsReadyFor, PerformsBy, PerformsFor        the same of a caller, and of a call that leaves all processes as they are
 --     is_on_names        whether a call is on names, or else on files, descriptors and processes
 use Rattle.std.specs.Prelude.{◌≡◌, ℕ, Bool, true, false, None, Some, IsTrue, IsFalse, Result, MatchResult, OnOk, OnErr}
 use Rattle.sector_disk.specs.Disk.{DiskState, HasFailed}
@@ -18,7 +18,6 @@ use Rattle.sector_txn.specs.Sectors.{TxnState, SameStore}
 use Rattle.fs_model.specs.declared.call.Call.{Call}
 use Rattle.fs_model.specs.declared.call.Call.TheVariants.{Mkdir, Rmdir, Link, Symlink, Readlink, Unlink, Rename, Chdir}
 use Rattle.fs_model.specs.declared.reply.Reply.{Reply}
-use Rattle.fs_model.specs.declared.event.Event.TheVariants.{Call as Calls}
 use Rattle.fs_model.specs.Processes.{ProcessTable}
 use Rattle.fs_model.specs.TreeChanges.{Change, changed, touches, touched, swept}
 use Rattle.fs_model.specs.States.{State, IsState}
@@ -27,6 +26,7 @@ use Rattle.fs_model.specs.Steps.{Choice, HasNewNumber, after, asks_in_call, firm
 use Rattle.bit_alloc.specs.Inodes.{IsSound}
 use Rattle.bit_alloc.specs.Room.{HasSpare}
 use Rattle.call_parts.specs.declared.reaching.Caller.{Caller}
+use Rattle.call_parts.specs.Callers.{Who, event, who_of}
 
 -- a state that runs: its tree is what the map holds, and its processes are those of the table
 pub record IsStateOf (p : Geometry) (map : SectorMap) (processes : ProcessTable) (s : State) : Type 0 where
@@ -51,37 +51,41 @@ chosen number free = record { ino = number; pid = 0; free = free }
 
 -- Nothing refuses the call. It gives this reply and leaves these processes, and the map holds the tree after it, in which times
 -- have moved to this one.
-pub record IsDone (p : Geometry) (time : ℕ) (map : SectorMap) (processes : ProcessTable) (s : State) (pid : ℕ) (call : Call) (reply : Reply) : Type 0 where
-  pub early : firm_refusal s (Calls pid call) ≡ None
-  pub late : other_refusal s (Calls pid call) ≡ None
+pub record IsDone (p : Geometry) (time : ℕ) (map : SectorMap) (processes : ProcessTable) (s : State) (who : Who) (call : Call) (reply : Reply) : Type 0 where
+  pub early : firm_refusal s (event who call) ≡ None
+  pub late : other_refusal s (event who call) ≡ None
   pub number : ℕ
   pub change : Change
-  pub effect : after s (Calls pid call) (chosen number 0) ≡ record { change = change; processes = processes; reply = reply; now = s.now }
+  pub effect : after s (event who call) (chosen number 0) ≡ record { change = change; processes = processes; reply = reply; now = s.now }
   pub new_number : HasNewNumber s change
   pub holds : HoldsAll p map (placed (touched time (touches s.room s.tree change) (swept (changed s.tree change) processes)))
 
 -- The call is refused: by what is asked first, by what is asked then, for want of memory, or for a read that failed.
-pub data IsRefused (old new : DiskState) (s : State) (pid : ℕ) (call : Call) (r : Refusal) : Type 0 where
-  early : firm_refusal s (Calls pid call) ≡ Some r → IsRefused old new s pid call r
-  late : firm_refusal s (Calls pid call) ≡ None → other_refusal s (Calls pid call) ≡ Some r → IsRefused old new s pid call r
-  lacks_memory : firm_refusal s (Calls pid call) ≡ None → IsTrue (asks_in_call call) → r ≡ Failed ENOMEM → IsRefused old new s pid call r
-  read_fails : firm_refusal s (Calls pid call) ≡ None → HasFailed old new → r ≡ Failed EIO → IsRefused old new s pid call r
+pub data IsRefused (old new : DiskState) (s : State) (who : Who) (call : Call) (r : Refusal) : Type 0 where
+  early : firm_refusal s (event who call) ≡ Some r → IsRefused old new s who call r
+  late : firm_refusal s (event who call) ≡ None → other_refusal s (event who call) ≡ Some r → IsRefused old new s who call r
+  lacks_memory : firm_refusal s (event who call) ≡ None → IsTrue (asks_in_call call) → r ≡ Failed ENOMEM → IsRefused old new s who call r
+  read_fails : firm_refusal s (event who call) ≡ None → HasFailed old new → r ≡ Failed EIO → IsRefused old new s who call r
 
--- A call of process pid, at this time. At `Err` the table is as it was, and of the map nothing is said: its changes are dropped.
-pub record Performs (p : Geometry) (time pid : ℕ) (call : Call) (old new : TxnState) (before now : ProcessTable) (result : Result Reply Refusal) : Type 0 where
+-- A call of this caller, at this time. At `Err` the table is as it was, and of the map nothing is said: its changes are dropped.
+pub record Performs (p : Geometry) (time : ℕ) (who : Who) (call : Call) (old new : TxnState) (before now : ProcessTable) (result : Result Reply Refusal) : Type 0 where
   pub store : SameStore old new
   pub super : OnOk result (new.sectors 0 ≡ old.sectors 0)
   pub table : OnErr result (now ≡ before)
   pub each : (s : State) → IsStateOf p old.sectors before s
-      → MatchResult result (λ reply. IsDone p time new.sectors now s pid call reply) (λ r. IsRefused old.disk new.disk s pid call r)
+      → MatchResult result (λ reply. IsDone p time new.sectors now s who call reply) (λ r. IsRefused old.disk new.disk s who call r)
 
 -- A caller's call may be performed.
 abbrev pub IsReadyFor : Caller → TxnState → Type 0
 IsReadyFor c txn = MayPerform c.geometry txn c.procs.now
 
+-- A call of someone on this caller's image, which leaves all processes as they are.
+abbrev pub PerformsBy : Caller → Who → Call → TxnState → TxnState → Result Reply Refusal → Type 0
+PerformsBy c who call old new result = Performs c.geometry c.time who call old new c.procs.now c.procs.now result
+
 -- A caller's call, which leaves all processes as they are, whatever it answers.
 abbrev pub PerformsFor : Caller → Call → TxnState → TxnState → Result Reply Refusal → Type 0
-PerformsFor c call old new result = Performs c.geometry c.time c.pid call old new c.procs.now c.procs.now result
+PerformsFor c call old new result = PerformsBy c (who_of c.by) call old new result
 
 -- whether the call is on directories and what they name
 abbrev pub is_on_names : Call → Bool

@@ -18,7 +18,6 @@ use Rattle.fs_layout.specs.Images.{inode_at}
 use Rattle.fs_layout.specs.Maps.{get}
 use Rattle.sector_txn.specs.Sectors.{TxnState}
 use Rattle.fs_model.specs.declared.call.Call.{Call}
-use Rattle.fs_model.specs.declared.event.Event.TheVariants.{Call as Calls}
 use Rattle.fs_model.specs.declared.walk.Form.{Form}
 use Rattle.fs_model.specs.declared.walk.Found.{Found}
 use Rattle.fs_model.specs.Demands.{Demand, first_of}
@@ -31,40 +30,42 @@ use Rattle.open_files.specs.Tables.{IsTable}
 use Rattle.call_parts.specs.declared.reaching.OpenFor.{OpenFor}
 use Rattle.call_parts.specs.declared.reaching.OpenFor.TheVariants.{Anything, Reading, Writing}
 use Rattle.call_parts.specs.Asked.{own_asked}
+use Rattle.call_parts.specs.Callers.{Who, ByProcess, event, IsJudgedAs, MayMake}
 use Rattle.call_parts.specs.Telling.{Checked, checked}
 use Rattle.call_parts.specs.Paths.{HasFound}
 use Rattle.call_parts.specs.TwoPaths.{HasFoundBoth}
 use Rattle.call_parts.specs.Performing.{IsStateOf, MayPerform, IsRefused}
 
 -- A call walks this path so, after its arguments, whose checks answer this. Then it asks these demands of what is found.
-pub record WalksPath (call : Call) (checks : Checked) (form : Form) (path : List ℕ) (demands : Scene → List Demand) (effect : Scene → ℕ → Effect) : Type 0 where
+pub record WalksPath (who : Who) (call : Call) (checks : Checked) (links : Bool) (form : Form) (path : List ℕ) (demands : Scene → List Demand) (effect : Scene → ℕ → Effect) : Type 0 where
   pub arguments : List Demand
   pub row : row_of call ≡ by_path arguments form path demands effect
   pub are_checked : checks ≡ checked (first_of arguments)
   pub asks : IsTrue (asks_in_call call)
+  pub may : MayMake who call links
 
 -- each call that walks so is refused
-pub record RefusesWalk (old new : DiskState) (s : State) (pid : ℕ) (checks : Checked) (form : Form) (path : List ℕ) (e : Refusal) : Type 0 where
-  pub each : (call : Call) (demands : Scene → List Demand) (effect : Scene → ℕ → Effect) → WalksPath call checks form path demands effect
-      → IsRefused old new s pid call e
+pub record RefusesWalk (old new : DiskState) (s : State) (who : Who) (checks : Checked) (links : Bool) (form : Form) (path : List ℕ) (e : Refusal) : Type 0 where
+  pub each : (call : Call) (demands : Scene → List Demand) (effect : Scene → ℕ → Effect) → WalksPath who call checks links form path demands effect
+      → IsRefused old new s who call e
 
 -- each that asks first that something is there
-pub record RefusesReach (old new : DiskState) (s : State) (pid : ℕ) (checks : Checked) (form : Form) (path : List ℕ) (e : Refusal) : Type 0 where
+pub record RefusesReach (old new : DiskState) (s : State) (who : Who) (checks : Checked) (links : Bool) (form : Form) (path : List ℕ) (e : Refusal) : Type 0 where
   pub each : (call : Call) (rest : Scene → List Demand) (effect : Scene → ℕ → Effect)
-      → WalksPath call checks form path (λ x. must_be_there x.first ∷ rest x) effect → IsRefused old new s pid call e
+      → WalksPath who call checks links form path (λ x. must_be_there x.first ∷ rest x) effect → IsRefused old new s who call e
 
 -- each that asks then that it is the caller's
-pub record RefusesOwned (old new : DiskState) (s : State) (pid : ℕ) (checks : Checked) (form : Form) (path : List ℕ) (e : Refusal) : Type 0 where
+pub record RefusesOwned (old new : DiskState) (s : State) (who : Who) (checks : Checked) (links : Bool) (form : Form) (path : List ℕ) (e : Refusal) : Type 0 where
   pub each : (call : Call) (rest : Scene → List Demand) (effect : Scene → ℕ → Effect)
-      → WalksPath call checks form path (λ x. must_be_there x.first ∷ own_at_end x ∷ rest x) effect → IsRefused old new s pid call e
+      → WalksPath who call checks links form path (λ x. must_be_there x.first ∷ own_at_end x ∷ rest x) effect → IsRefused old new s who call e
 
--- Process pid is q, its arguments are fine, and in each state of this map and this table its walk finds f.
-pub record HasWalked (p : Geometry) (txn : TxnState) (processes : ProcessTable) (pid : ℕ) (checks : Checked) (form : Form) (path : List ℕ) (q : Process) (f : Found) : Type 0 where
+-- The caller is judged as q, its arguments are fine, and in each state of this map and this table its walk finds f.
+pub record HasWalked (p : Geometry) (txn : TxnState) (processes : ProcessTable) (who : Who) (checks : Checked) (links : Bool) (form : Form) (path : List ℕ) (q : Process) (f : Found) : Type 0 where
   pub ready : MayPerform p txn processes
-  pub there : get nat_cmp processes pid ≡ Some q
+  pub there : IsJudgedAs processes who q
   pub fine : checks ≡ Ok tt
   pub bytes : IsBytes path
-  pub found : (s : State) → IsStateOf p txn.sectors processes s → HasFound s pid q form path f
+  pub found : (s : State) → IsStateOf p txn.sectors processes s → HasFound s who q links form path f
 
 -- the number and the inode of what was found
 pub record IsInodeFound (p : Geometry) (image : SectorMap) (f : Found) (n : ℕ) (v : Inode) : Type 0 where
@@ -73,31 +74,32 @@ pub record IsInodeFound (p : Geometry) (image : SectorMap) (f : Found) (n : ℕ)
   pub inode : v ≡ inode_at p image n
   pub met : must_be_there f ≡ None
 
-pub record HasReached (p : Geometry) (txn : TxnState) (processes : ProcessTable) (pid : ℕ) (checks : Checked) (form : Form) (path : List ℕ) (q : Process) (f : Found) (n : ℕ) (v : Inode) : Type 0 where
-  pub walked : HasWalked p txn processes pid checks form path q f
+pub record HasReached (p : Geometry) (txn : TxnState) (processes : ProcessTable) (who : Who) (checks : Checked) (links : Bool) (form : Form) (path : List ℕ) (q : Process) (f : Found) (n : ℕ) (v : Inode) : Type 0 where
+  pub walked : HasWalked p txn processes who checks links form path q f
   pub inode : IsInodeFound p txn.sectors f n v
 
-pub record HasOwned (p : Geometry) (txn : TxnState) (processes : ProcessTable) (pid : ℕ) (checks : Checked) (form : Form) (path : List ℕ) (q : Process) (f : Found) (n : ℕ) (v : Inode) : Type 0 where
-  pub reached : HasReached p txn processes pid checks form path q f n v
+pub record HasOwned (p : Geometry) (txn : TxnState) (processes : ProcessTable) (who : Who) (checks : Checked) (links : Bool) (form : Form) (path : List ℕ) (q : Process) (f : Found) (n : ℕ) (v : Inode) : Type 0 where
+  pub reached : HasReached p txn processes who checks links form path q f n v
   pub met : own_asked q.cred v.uid f.step ≡ None
 
 -- A call walks both paths, the first from its start to its end before the second. Then it asks these demands of what is found.
-pub record WalksBoth (call : Call) (old_path new_path : List ℕ) (demands : Scene → List Demand) (effect : Scene → Effect) : Type 0 where
+pub record WalksBoth (who : Who) (call : Call) (links : Bool) (old_path new_path : List ℕ) (demands : Scene → List Demand) (effect : Scene → Effect) : Type 0 where
   pub row : row_of call ≡ by_two_paths old_path new_path demands effect
   pub asks : IsTrue (asks_in_call call)
+  pub may : MayMake who call links
 
 -- each call that walks both so is refused
-pub record RefusesBoth (old new : DiskState) (s : State) (pid : ℕ) (old_path new_path : List ℕ) (e : Refusal) : Type 0 where
-  pub each : (call : Call) (demands : Scene → List Demand) (effect : Scene → Effect) → WalksBoth call old_path new_path demands effect
-      → IsRefused old new s pid call e
+pub record RefusesBoth (old new : DiskState) (s : State) (who : Who) (links : Bool) (old_path new_path : List ℕ) (e : Refusal) : Type 0 where
+  pub each : (call : Call) (demands : Scene → List Demand) (effect : Scene → Effect) → WalksBoth who call links old_path new_path demands effect
+      → IsRefused old new s who call e
 
--- Process pid is q, and in each state of this map and this table its walks find f and g.
-pub record HasWalkedBoth (p : Geometry) (txn : TxnState) (processes : ProcessTable) (pid : ℕ) (old_path new_path : List ℕ) (q : Process) (f g : Found) : Type 0 where
+-- The caller is judged as q, and in each state of this map and this table its walks find f and g.
+pub record HasWalkedBoth (p : Geometry) (txn : TxnState) (processes : ProcessTable) (who : Who) (links : Bool) (old_path new_path : List ℕ) (q : Process) (f g : Found) : Type 0 where
   pub ready : MayPerform p txn processes
-  pub there : get nat_cmp processes pid ≡ Some q
+  pub there : IsJudgedAs processes who q
   pub old_bytes : IsBytes old_path
   pub new_bytes : IsBytes new_path
-  pub found : (s : State) → IsStateOf p txn.sectors processes s → HasFoundBoth s pid q old_path new_path f g
+  pub found : (s : State) → IsStateOf p txn.sectors processes s → HasFoundBoth s who q links old_path new_path f g
 
 -- EBADF: nothing is open there, or it isn't open for this
 abbrev pub bad_for : OpenFor → ℕ → Process → Demand
@@ -117,12 +119,12 @@ pub record ActsOn (call : Call) (fd : ℕ) (purpose : OpenFor) (demands : Scene 
 -- each call that acts so is refused, whatever the disk
 pub record IsNotOpen (s : State) (pid fd : ℕ) (purpose : OpenFor) (e : Refusal) : Type 0 where
   pub each : (call : Call) (demands : Scene → List Demand) (effect : Scene → Effect) → ActsOn call fd purpose demands effect
-      → firm_refusal s (Calls pid call) ≡ Some e
+      → firm_refusal s (event (ByProcess pid) call) ≡ Some e
 
 -- or since its inode can't be read
 pub record RefusesOpen (old new : DiskState) (s : State) (pid fd : ℕ) (purpose : OpenFor) (e : Refusal) : Type 0 where
   pub each : (call : Call) (demands : Scene → List Demand) (effect : Scene → Effect) → ActsOn call fd purpose demands effect
-      → IsRefused old new s pid call e
+      → IsRefused old new s (ByProcess pid) call e
 
 -- Process pid has d open at fd.
 pub record IsOpened (processes : ProcessTable) (pid fd : ℕ) (d : Descriptor) : Type 0 where

@@ -74,7 +74,7 @@ abbrev pub FoundThere : Found → Tree → Type 0
 FoundThere f t = (n : ℕ) → f.ino ≡ Some n → IsThere t n
 
 abbrev pub FindsWalked : Caller → SectorMap → WalkedBoth → State → Type 0
-FindsWalked c map w s = FindsBoth c.geometry map c.procs.now w.process.now w.first w.second s
+FindsWalked c map w s = FindsBoth c.geometry map c.procs.now w.process w.first w.second s
 
 abbrev pub scene_walked : WalkedBoth → State → Scene
-scene_walked w s = scene_with s w.process.now w.first w.second
+scene_walked w s = scene_with s w.process w.first w.second

@@ -32,7 +32,7 @@ use fs_cred::{Cred, Denial, Errno, Need, Refusal, Rule, sticky_allows};
 use fs_layout::{Geometry, Inode, Kind, S_ISGID, S_ISVTX};
 use fs_model::{Found, Last};
 use inode_table::{LoadAclFault, load_default_acl};
-use open_files::Process;
+use open_files::Judged;
 use path_walk::{load_inode, permission, walk};
 use posix_acl::{Acl, Perms};
 use sector_txn::Sectors;
@@ -130,7 +130,7 @@ pub fn check_slash(found: &Found, kind: Kind) -> Result<(), Refusal>
 /// Asks whether the directory of the last lookup of the walk with this number, where it has S_ISVTX, lets the caller take what
 /// has this inode from it.
 pub fn check_sticky(
-    process: &Process,
+    process: &Judged,
     found: &Found,
     directory: &Inode,
     inode: &Inode,
@@ -265,7 +265,7 @@ fn ask_in_directory<S: Sectors>(
 pub fn ask_directory<S: Sectors>(
     s: &mut S,
     caller: &Caller,
-    process: &Process,
+    process: &Judged,
     found: &Found,
     walk: u8,
 ) -> Result<Inode, Refusal>

@@ -17,6 +17,6 @@ pub use asking::{
 };
 pub use changing::{drop_node, leave, name_inode, remove_name, set_names, touch};
 pub use reaching::{
-    Asker, CallResult, Caller, OpenFor, Reached, Walked, WalkedBoth, find_open, inode_found, reach,
-    reach_open, reach_owned, walk_both, walk_path,
+    Asker, By, CallResult, Caller, OpenFor, Reached, Walked, WalkedBoth, find_open, inode_found,
+    reach, reach_open, reach_owned, type_at, walk_both, walk_path,
 };

@@ -5,39 +5,88 @@ ghost use Rattle.fs_layout.specs.Images.{inode_at};
 ghost use Rattle.sector_txn.specs.Sectors.{IsUnchanged};
 ghost use Rattle.bit_alloc.specs.Inodes.{IsSound};
 ghost use Rattle.fs_model.specs.Demands.{first_of};
-ghost use Rattle.fs_model.specs.Parts.{path_checks};
 ghost use Rattle.fs_model.specs.Scenes.{found_ino, must_be_there};
 ghost use Rattle.fs_model.specs.Trees.{Tree};
 ghost use Rattle.path_walk.specs.Answers.{refused_or, IsAnswered};
-ghost use Rattle.path_walk.specs.HeldTrees.{HoldsTree, IsThere};
-ghost use Rattle.path_walk.specs.SoundInodes.{HasSoundInodes};
-ghost use Rattle.fs_model.specs.Stands.{room_of};
-ghost use Rattle.path_walk.specs.Walked.{walk_of};
-ghost use Rattle.call_parts.specs.Telling.{TellsAnswer};
+ghost use Rattle.call_parts.specs.Callers.{who_of, IsJudgedAs, IsAbsent, path_asked, starts_asked, types_asked, first_start, second_start};
+ghost use Rattle.path_walk.specs.HeldTrees.{HoldsTree};
+ghost use Rattle.call_parts.specs.Telling.{TellsAnswer, checked};
+ghost use Rattle.call_parts.specs.Types.{FindsType, FindsTypes};
+ghost use Rattle.call_parts.specs.Paths.{walk_by};
 ghost use Rattle.fs_model.specs.States.{State};
 ghost use Rattle.open_files.specs.Tables.{IsTable};
 ghost use Rattle.call_parts.specs.Performing.{IsStateOf, IsReadyFor};
 ghost use Rattle.call_parts.specs.Reaching.{RefusesWalk, RefusesReach, RefusesOwned, HasWalked, HasReached, HasOwned, RefusesBoth, HasWalkedBoth, IsNotOpen, RefusesOpen, IsOpenFor, HasOpened, opens_for};
 ghost use Rattle.fs_layout.specs.Bytes.{IsBytes};
-ghost use Rattle.call_parts.specs.TwoPaths.{both_checks, walks_of};
+ghost use Rattle.call_parts.specs.TwoPaths.{both_asked, walks_by};
 
 use crate::asking::allowed_by;
 use fs_cred::{Errno, Need, Refusal, may_own};
 use fs_layout::{Geometry, Inode};
-use fs_model::{Form, Found, Path, Reply};
-use open_files::{Descriptor, Process, Procs};
-use path_walk::{check_path, load_inode, resolve, walk};
+use fs_model::{Actor, FileType, Form, Found, Path, Reply};
+use inode_table::load;
+use open_files::{Descriptor, Judged, Procs};
+use path_walk::{check_path, load_inode, walk};
 use sector_txn::Sectors;
 use std::alloc::Global;
 
-/// Who calls, where and when: a process among all of them, the image that it calls on, and the present, as times count it.
+/// Who makes a call: the process of a number, or an actor.
+#[derive(Clone, Copy)]
+pub enum By<'a> {
+    Process(usize),
+    Actor(&'a Actor),
+}
+
+/// Who calls, where and when: a process among all of them or an actor, the image that it calls on, and the present, as times
+/// count it.
 #[derive(Clone, Copy)]
 pub struct Caller<'a> {
     pub alloc: Global,
     pub geometry: Geometry,
     pub time: u64,
     pub procs: &'a Procs,
-    pub pid: usize,
+    pub by: By<'a>,
+}
+
+impl<'a> Caller<'a> {
+    /// Who calls, among these processes.
+    pub fn new(
+        alloc: Global,
+        geometry: Geometry,
+        time: u64,
+        procs: &'a Procs,
+        by: By<'a>,
+    ) -> Caller<'a>
+        ensures { result ≡ record {
+          alloc = alloc;
+          geometry = geometry;
+          time = time;
+          procs = procs.entry;
+          by = by.entry;
+        } }
+    {
+        Caller {
+            alloc,
+            geometry,
+            time,
+            procs,
+            by,
+        }
+    }
+
+    /// As which process its call is judged. `ESRCH`: there is no such process.
+    pub fn process(&self) -> Result<Judged<'a>, Errno>
+        ensures found { IfOk result (λ q. IsJudgedAs self.now.procs.now (who_of self.now.by) q) }
+        ensures absent { IfErr result (λ errno. (errno ≡ Errno.ESRCH) × IsAbsent self.now.procs.now (who_of self.now.by)) }
+    {
+        match self.by {
+            By::Process(pid) => {
+                let process = self.procs.process(pid)?;
+                Ok(Judged::process(process))
+            }
+            By::Actor(actor) => Ok(Judged::actor(actor)),
+        }
+    }
 }
 
 /// Who asks for a call, where and when: the process of this number, on this image, at the present.
@@ -57,44 +106,161 @@ impl Asker {
           geometry = self.geometry;
           time = self.time;
           procs = procs.entry;
-          pid = self.pid;
+          by = By.Process self.pid;
         } }
     {
-        Caller {
-            alloc: self.alloc,
-            geometry: self.geometry,
-            time: self.time,
+        Caller::new(
+            self.alloc,
+            self.geometry,
+            self.time,
             procs,
-            pid: self.pid,
-        }
+            By::Process(self.pid),
+        )
     }
 }
 
 /// What a call answers.
 pub type CallResult = Result<Reply, Refusal>;
 
-// What a path leads to for a process.
+/// The type of what stands at a number; `None` where nothing does. EIO: the disk has failed.
+pub fn type_at<S: Sectors>(
+    s: &mut S,
+    geometry: Geometry,
+    ino: u32,
+) -> Result<Option<FileType>, Errno>
+    requires { IsSound geometry (S.state s.old) }
+    ensures { FindsType geometry ino (S.state s.old) (S.state s.new) result }
+{
+    if ino >= geometry.inodes {
+        return Ok(None);
+    }
+    match load(s, geometry, ino) {
+        Ok(inode) => Ok(FileType::of_kind(inode.kind)),
+        Err(_) => Err(Errno::EIO),
+    }
+}
+
+// The types of what stands at two numbers. Where these are one, its inode is read once.
+fn types_at<S: Sectors>(
+    s: &mut S,
+    geometry: Geometry,
+    first: u32,
+    second: u32,
+) -> Result<(Option<FileType>, Option<FileType>), Errno>
+    requires { IsSound geometry (S.state s.old) }
+    ensures { FindsTypes geometry first second (S.state s.old) (S.state s.new) result }
+{
+    let one = type_at(s, geometry, first)?;
+    if first == second {
+        return Ok((one, one));
+    }
+    let other = type_at(s, geometry, second)?;
+    Ok((one, other))
+}
+
+// Checks a path before it is walked.
+fn check_from(by: By, path: &Path) -> Result<(), Refusal>
+    ensures { result ≡ checked (first_of (path_asked (who_of by.entry) path.now)) }
+{
+    match by {
+        By::Process(_) => check_path(path),
+        By::Actor(_) => {
+            if path.bytes().is_empty() {
+                return Ok(());
+            }
+            check_path(path)
+        }
+    }
+}
+
+// Asks for something at both starts, and for no link at the first, where that isn't acted on.
+fn check_types(
+    first: Option<FileType>,
+    second: Option<FileType>,
+    is_empty: bool,
+    links: bool,
+) -> Result<(), Refusal>
+    ensures { result ≡ checked (first_of (types_asked first second is_empty links)) }
+{
+    if first.is_none() {
+        return Err(Refusal::Failed(Errno::ENOENT));
+    }
+    if second.is_none() {
+        return Err(Refusal::Failed(Errno::ENOENT));
+    }
+    match first {
+        Some(FileType::Link) if is_empty && !links => Err(Refusal::Failed(Errno::ELOOP)),
+        _ => Ok(()),
+    }
+}
+
+// Asks what is asked of the objects at which an actor's paths start.
+fn check_starts<S: Sectors>(
+    s: &mut S,
+    geometry: Geometry,
+    by: By,
+    path: &Path,
+    links: bool,
+) -> Result<(), Refusal>
+    requires { IsSound geometry (S.state s.old) }
+    ensures each { (t : Tree) → HoldsTree geometry (S.state s.old).sectors t
+        → IsAnswered (S.state s.old).disk (S.state s.new).disk (checked (first_of (starts_asked t (who_of by.entry) links path.now))) result }
+    ensures same { IsUnchanged (S.state s.old) (S.state s.new) }
+{
+    let By::Actor(actor) = by else {
+        return Ok(());
+    };
+    let (first, second) = types_at(s, geometry, actor.start, actor.second_start)?;
+    let is_empty = path.bytes().is_empty();
+    check_types(first, second, is_empty, links)?;
+    Ok(())
+}
+
+// Where the first path of a call starts.
+fn first_start(by: By, process: &Judged) -> u32
+    ensures { result ≡ first_start (who_of by.entry) process.now }
+{
+    match by {
+        By::Process(_) => process.cwd(),
+        By::Actor(actor) => actor.start,
+    }
+}
+
+// Where its second path starts.
+fn second_start(by: By, process: &Judged) -> u32
+    ensures { result ≡ second_start (who_of by.entry) process.now }
+{
+    match by {
+        By::Process(_) => process.second_cwd(),
+        By::Actor(actor) => actor.second_start,
+    }
+}
+
+// What a path leads to for a caller.
 fn find<S: Sectors>(
     s: &mut S,
     caller: &Caller,
-    process: &Process,
+    process: &Judged,
     path: &Path,
+    links: bool,
     form: Form,
 ) -> Result<Found, Refusal>
-    requires sound { IsSound caller.now.geometry (S.state s.old) }
-    requires inodes { HasSoundInodes caller.now.geometry (S.state s.old).sectors }
-    requires start { process.now.cwd < caller.now.geometry.inodes }
-    ensures checked { (refusal : Refusal) → first_of (path_checks path.now) ≡ Some refusal → result ≡ Err refusal }
-    ensures each { first_of (path_checks path.now) ≡ None
-        → (t : Tree) → HoldsTree caller.now.geometry (S.state s.old).sectors t → IsThere t process.now.cwd
+    requires ready { IsReadyFor caller.now (S.state s.old) }
+    requires stands { IsJudgedAs caller.now.procs.now (who_of caller.now.by) process.now }
+    ensures checked { (refusal : Refusal) → first_of (path_asked (who_of caller.now.by) path.now) ≡ Some refusal → result ≡ Err refusal }
+    ensures each { first_of (path_asked (who_of caller.now.by) path.now) ≡ None
+        → (st : State) → IsStateOf caller.now.geometry (S.state s.old).sectors caller.now.procs.now st
         → IsAnswered (S.state s.old).disk (S.state s.new).disk
-        (walk_of (room_of caller.now.geometry) t process.now.cred 1 form process.now.cwd path.now) result }
-    ensures valid { IfOk result (λ found. first_of (path_checks path.now) ≡ None) }
+        (walk_by st (who_of caller.now.by) process.now links form path.now) result }
+    ensures valid { IfOk result (λ found. first_of (path_asked (who_of caller.now.by) path.now) ≡ None) }
     ensures same { IsUnchanged (S.state s.old) (S.state s.new) }
 {
+    check_from(caller.by, path)?;
+    check_starts(s, caller.geometry, caller.by, path, links)?;
     let cred = process.cred();
-    let cwd = process.cwd();
-    resolve(caller.alloc, s, caller.geometry, cred, cwd, path, form)
+    let start = first_start(caller.by, process);
+    let found = walk(caller.alloc, s, caller.geometry, cred, start, path, form, 1)?;
+    Ok(found)
 }
 
 /// The inode that was found, with its number. ENOENT: none was.
@@ -115,52 +281,70 @@ pub fn inode_found<S: Sectors>(
     Ok((ino, inode))
 }
 
-// What both paths of a call lead to, each as a walk finds it from its directory. Both are checked before the first is walked.
+// What both paths of a call lead to, each as a walk finds it from its start. Both are checked before the first is walked.
 fn find_names<S: Sectors>(
-    alloc: Global,
     s: &mut S,
-    geometry: Geometry,
-    process: &Process,
+    caller: &Caller,
+    process: &Judged,
     old: &Path,
     new: &Path,
+    links: bool,
 ) -> Result<(Found, Found), Refusal>
-    requires sound { IsSound geometry (S.state s.old) }
-    requires inodes { HasSoundInodes geometry (S.state s.old).sectors }
-    requires start { process.now.cwd < geometry.inodes }
-    requires second_start { process.now.second_cwd < geometry.inodes }
-    ensures checked { (refusal : Refusal) → first_of (both_checks old.now new.now) ≡ Some refusal → result ≡ Err refusal }
-    ensures each { first_of (both_checks old.now new.now) ≡ None
-        → (t : Tree) → HoldsTree geometry (S.state s.old).sectors t → IsThere t process.now.cwd → IsThere t process.now.second_cwd
+    requires ready { IsReadyFor caller.now (S.state s.old) }
+    requires stands { IsJudgedAs caller.now.procs.now (who_of caller.now.by) process.now }
+    ensures checked { (refusal : Refusal) → first_of (both_asked (who_of caller.now.by) old.now new.now) ≡ Some refusal
+        → result ≡ Err refusal }
+    ensures each { first_of (both_asked (who_of caller.now.by) old.now new.now) ≡ None
+        → (st : State) → IsStateOf caller.now.geometry (S.state s.old).sectors caller.now.procs.now st
         → IsAnswered (S.state s.old).disk (S.state s.new).disk
-        (walks_of (room_of geometry) t process.now.cred process.now.cwd process.now.second_cwd old.now new.now) result }
-    ensures valid { IfOk result (λ found. first_of (both_checks old.now new.now) ≡ None) }
+        (walks_by st (who_of caller.now.by) process.now links old.now new.now) result }
+    ensures valid { IfOk result (λ found. first_of (both_asked (who_of caller.now.by) old.now new.now) ≡ None) }
     ensures old_bytes { IsBytes old.now }
     ensures new_bytes { IsBytes new.now }
     ensures same { IsUnchanged (S.state s.old) (S.state s.new) }
 {
     let _old_bytes = old.bytes();
     let _new_bytes = new.bytes();
-    check_path(old)?;
-    check_path(new)?;
+    check_from(caller.by, old)?;
+    check_from(caller.by, new)?;
+    check_starts(s, caller.geometry, caller.by, old, links)?;
     let cred = process.cred();
-    let cwd = process.cwd();
-    let second_cwd = process.second_cwd();
-    let first = walk(alloc, s, geometry, cred, cwd, old, Form::Parent, 1)?;
-    let second = walk(alloc, s, geometry, cred, second_cwd, new, Form::Parent, 2)?;
+    let start = first_start(caller.by, process);
+    let second_start = second_start(caller.by, process);
+    let first = walk(
+        caller.alloc,
+        s,
+        caller.geometry,
+        cred,
+        start,
+        old,
+        Form::Parent,
+        1,
+    )?;
+    let second = walk(
+        caller.alloc,
+        s,
+        caller.geometry,
+        cred,
+        second_start,
+        new,
+        Form::Parent,
+        2,
+    )?;
     Ok((first, second))
 }
 
 /// The process that calls, and what its path leads to.
 #[derive(Drop)]
 pub struct Walked<'a> {
-    pub process: &'a Process,
+    pub process: Judged<'a>,
     pub found: Found,
 }
 
 /// The process that calls, with number and inode of what its path leads to.
 #[derive(Drop)]
 pub struct Reached<'a> {
-    pub process: &'a Process,
+    pub process: Judged<'a>,
     pub found: Found,
     pub ino: u32,
     pub inode: Inode,
@@ -169,7 +353,7 @@ pub struct Reached<'a> {
 /// The process that calls, and what both its paths lead to.
 #[derive(Drop)]
 pub struct WalkedBoth<'a> {
-    pub process: &'a Process,
+    pub process: Judged<'a>,
     pub first: Found,
     pub second: Found,
 }
@@ -183,26 +367,28 @@ pub enum OpenFor {
 }
 
 /// What the path of a call leads to, for its caller, once the checks of the call's arguments are passed: they have answered
-/// `checks`. At `Err` it is the refusal of whichever call walks so.
+/// `checks`. Whether an actor's call acts on a link at which it starts is `links`. At `Err` it is the refusal of whichever call
+/// walks so.
 pub fn walk_path<'a, S: Sectors>(
     s: &mut S,
     caller: &Caller<'a>,
     checks: Result<(), Refusal>,
     path: &Path,
+    links: bool,
     form: Form,
 ) -> Result<Walked<'a>, Refusal>
     requires ready { IsReadyFor caller.now (S.state s.old) }
     ensures refused { IfErr result (λ e. (st : State)
         → IsStateOf caller.now.geometry (S.state s.old).sectors caller.now.procs.now st
-        → RefusesWalk (S.state s.old).disk (S.state s.new).disk st caller.now.pid checks form path.now e) }
+        → RefusesWalk (S.state s.old).disk (S.state s.new).disk st (who_of caller.now.by) checks links form path.now e) }
     ensures walked { IfOk result (λ w. HasWalked caller.now.geometry (S.state s.new)
-        caller.now.procs.now caller.now.pid checks form path.now w.process.now w.found) }
+        caller.now.procs.now (who_of caller.now.by) checks links form path.now w.process w.found) }
     ensures same { IsUnchanged (S.state s.old) (S.state s.new) }
 {
     let _bytes = path.bytes();
-    let process = caller.procs.process(caller.pid)?;
+    let process = caller.process()?;
     checks?;
-    let found = find(s, caller, process, path, form)?;
+    let found = find(s, caller, &process, path, links, form)?;
     Ok(Walked { process, found })
 }
 
@@ -212,17 +398,18 @@ pub fn reach<'a, S: Sectors>(
     caller: &Caller<'a>,
     checks: Result<(), Refusal>,
     path: &Path,
+    links: bool,
     form: Form,
 ) -> Result<Reached<'a>, Refusal>
     requires ready { IsReadyFor caller.now (S.state s.old) }
     ensures refused { IfErr result (λ e. (st : State)
         → IsStateOf caller.now.geometry (S.state s.old).sectors caller.now.procs.now st
-        → RefusesReach (S.state s.old).disk (S.state s.new).disk st caller.now.pid checks form path.now e) }
+        → RefusesReach (S.state s.old).disk (S.state s.new).disk st (who_of caller.now.by) checks links form path.now e) }
     ensures reached { IfOk result (λ r. HasReached caller.now.geometry (S.state s.new)
-        caller.now.procs.now caller.now.pid checks form path.now r.process.now r.found r.ino r.inode) }
+        caller.now.procs.now (who_of caller.now.by) checks links form path.now r.process r.found r.ino r.inode) }
     ensures same { IsUnchanged (S.state s.old) (S.state s.new) }
 {
-    let Walked { process, found } = walk_path(s, caller, checks, path, form)?;
+    let Walked { process, found } = walk_path(s, caller, checks, path, links, form)?;
     let (ino, inode) = inode_found(s, caller.geometry, &found)?;
     Ok(Reached {
         process,
@@ -238,17 +425,18 @@ pub fn reach_owned<'a, S: Sectors>(
     caller: &Caller<'a>,
     checks: Result<(), Refusal>,
     path: &Path,
+    links: bool,
     form: Form,
 ) -> Result<Reached<'a>, Refusal>
     requires ready { IsReadyFor caller.now (S.state s.old) }
     ensures refused { IfErr result (λ e. (st : State)
         → IsStateOf caller.now.geometry (S.state s.old).sectors caller.now.procs.now st
-        → RefusesOwned (S.state s.old).disk (S.state s.new).disk st caller.now.pid checks form path.now e) }
+        → RefusesOwned (S.state s.old).disk (S.state s.new).disk st (who_of caller.now.by) checks links form path.now e) }
     ensures owned { IfOk result (λ r. HasOwned caller.now.geometry (S.state s.new)
-        caller.now.procs.now caller.now.pid checks form path.now r.process.now r.found r.ino r.inode) }
+        caller.now.procs.now (who_of caller.now.by) checks links form path.now r.process r.found r.ino r.inode) }
     ensures same { IsUnchanged (S.state s.old) (S.state s.new) }
 {
-    let reached = reach(s, caller, checks, path, form)?;
+    let reached = reach(s, caller, checks, path, links, form)?;
     let answer = may_own(reached.process.cred(), reached.inode.uid);
     allowed_by(1, reached.found.step, Need::Own, answer)?;
     Ok(reached)
@@ -261,17 +449,18 @@ pub fn walk_both<'a, S: Sectors>(
     caller: &Caller<'a>,
     old: &Path,
     new: &Path,
+    links: bool,
 ) -> Result<WalkedBoth<'a>, Refusal>
     requires ready { IsReadyFor caller.now (S.state s.old) }
     ensures refused { IfErr result (λ e. (st : State)
         → IsStateOf caller.now.geometry (S.state s.old).sectors caller.now.procs.now st
-        → RefusesBoth (S.state s.old).disk (S.state s.new).disk st caller.now.pid old.now new.now e) }
+        → RefusesBoth (S.state s.old).disk (S.state s.new).disk st (who_of caller.now.by) links old.now new.now e) }
     ensures walked { IfOk result (λ w. HasWalkedBoth caller.now.geometry (S.state s.new)
-        caller.now.procs.now caller.now.pid old.now new.now w.process.now w.first w.second) }
+        caller.now.procs.now (who_of caller.now.by) links old.now new.now w.process w.first w.second) }
     ensures same { IsUnchanged (S.state s.old) (S.state s.new) }
 {
-    let process = caller.procs.process(caller.pid)?;
-    let (first, second) = find_names(caller.alloc, s, caller.geometry, process, old, new)?;
+    let process = caller.process()?;
+    let (first, second) = find_names(s, caller, &process, old, new, links)?;
     Ok(WalkedBoth {
         process,
         first,
@@ -313,18 +502,19 @@ pub fn find_open(
 pub fn reach_open<S: Sectors>(
     s: &mut S,
     caller: &Caller,
+    pid: usize,
     fd: usize,
     purpose: OpenFor,
 ) -> Result<(Descriptor, Inode), Refusal>
     requires ready { IsReadyFor caller.now (S.state s.old) }
     ensures refused { IfErr result (λ e. (st : State)
         → IsStateOf caller.now.geometry (S.state s.old).sectors caller.now.procs.now st
-        → RefusesOpen (S.state s.old).disk (S.state s.new).disk st caller.now.pid fd purpose e) }
+        → RefusesOpen (S.state s.old).disk (S.state s.new).disk st pid fd purpose e) }
     ensures opened { IfOk result (λ r. HasOpened caller.now.geometry (S.state s.new)
-        caller.now.procs.now caller.now.pid fd purpose r.0 r.1) }
+        caller.now.procs.now pid fd purpose r.0 r.1) }
     ensures same { IsUnchanged (S.state s.old) (S.state s.new) }
 {
-    let descriptor = find_open(caller.procs, caller.pid, fd, purpose)?;
+    let descriptor = find_open(caller.procs, pid, fd, purpose)?;
     let inode = load_inode(s, caller.geometry, descriptor.ino)?;
     Ok((descriptor, inode))
 }

@@ -2,6 +2,8 @@
 --     given_super        the superblock stays
 --     acl_rest, holder_refused, space_refused        it is refused
 --     acl_changed, acl_given        it is given
+use Rattle.std.specs.Prelude.{false}
+use Rattle.call_parts.specs.Callers.{Who}
 use Rattle.std.specs.Prelude.{◌≡◌, ℕ, Bool, true, false, not, ◌&&◌, List, [], ◌∷◌, Option, None, Some, IsFalse, Ok, Err}
 use Rattle.std.proofs.Common.{refl, sym, ap, subst, inl, ◌∙◌}
 use Rattle.posix_acl.specs.AccessList.{AccessList, IsSomeAcl}
@@ -99,8 +101,8 @@ space_later p which acl {old} {mid} new e same is =
     kept_back (λ (m : SectorMap). IsAnswered old.disk new (refused_or {A = Unit {0}} (first_of (acl_space_asked which acl (free_sectors p m))) (Ok tt)) (Err e)) same
     (answered_later {A = Unit {0}} new same is)
 
-module _ {p : Geometry} {map : SectorMap} {processes : ProcessTable} {s : State} {pid : ℕ} {q : Process} {path : List ℕ} {f : Found} {n : ℕ} {v : Inode}
-    (at : IsStateOf p map processes s) (has : HasFound s pid q Follow path f) (i : IsInodeFound p map f n v)
+module _ {p : Geometry} {map : SectorMap} {processes : ProcessTable} {s : State} {who : Who} {q : Process} {path : List ℕ} {f : Found} {n : ℕ} {v : Inode}
+    (at : IsStateOf p map processes s) (has : HasFound s who q false Follow path f) (i : IsInodeFound p map f n v)
     (met : own_asked q.cred v.uid f.step ≡ None) (which : AclType) (acl : Option AccessList) where
   abbrev first_two : List Demand
   first_two = must_be_there f ∷ own_at_end (scene_at s q f) ∷ []
@@ -150,8 +152,8 @@ module _ {p : Geometry} {map : SectorMap} {processes : ProcessTable} {s : State}
         i.number (node_is s q f n i.number a) refl
 
 -- so it is after what was asked
-pub acl_given : {p : Geometry} {mid last : TxnState} {processes : ProcessTable} {s : State} {pid : ℕ} {q : Process} {path : List ℕ} {f : Found} {n : ℕ} {v : Inode}
-    → IsStateOf p mid.sectors processes s → HasFound s pid q Follow path f → IsInodeFound p mid.sectors f n v → own_asked q.cred v.uid f.step ≡ None → (which : AclType) (acl : Option AccessList)
+pub acl_given : {p : Geometry} {mid last : TxnState} {processes : ProcessTable} {s : State} {who : Who} {q : Process} {path : List ℕ} {f : Found} {n : ℕ} {v : Inode}
+    → IsStateOf p mid.sectors processes s → HasFound s who q false Follow path f → IsInodeFound p mid.sectors f n v → own_asked q.cred v.uid f.step ≡ None → (which : AclType) (acl : Option AccessList)
     → checked (first_of (set_acl_arguments which acl)) ≡ Ok tt → checked (holder_asked which v.kind) ≡ Ok tt → IsUnchanged mid last
     → checked (first_of (acl_space_asked which acl (free_sectors p mid.sectors))) ≡ Ok tt → {new : SectorMap} → SavesOf which p n v.mode acl last.sectors new
     → IsChange p new processes s q (set_acl_demands which acl (scene_at s q f)) (set_acl_effect which acl (scene_at s q f)) Done ((n, Changed) ∷ [])

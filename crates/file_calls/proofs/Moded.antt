@@ -1,4 +1,6 @@
 -- Another mode of what was found.
+use Rattle.std.specs.Prelude.{false}
+use Rattle.call_parts.specs.Callers.{Who}
 use Rattle.std.specs.Prelude.{◌≡◌, ◌≢◌, ℕ, ◌+◌, ◌/◌, ◌%◌, ◌==◌, ◌<◌, ◌≤◌, nat_le, nat_eq, zero, suc, Bool, true, false, not, ◌&&◌, ◌||◌, cond, if◌then◌else◌, List, [], ◌∷◌, length, Option, None, Some, is_some}
 use Rattle.std.proofs.Common.{refl, sym, ap, subst, arith, ◌∙◌}
 use Rattle.posix_acl.specs.declared.entry.Perms.{Perms}
@@ -155,8 +157,8 @@ acl_told owner group (Dir a d) x e =
     let is : record { kind = nodes.Directory; owner = owner; group = group; acl = a } ≡ x = cc in ap (λ (n : AccessNode). Some n.acl) is
 acl_told owner group (Link target) x e = absurd (cc)
 
-module _ {p : Geometry} {map : SectorMap} {processes : ProcessTable} {s : State} {pid : ℕ} {q : Process} {path : List ℕ} {f : Found} {n : ℕ} {v : Inode}
-    (at : IsStateOf p map processes s) (has : HasFound s pid q Follow path f) (i : IsInodeFound p map f n v) where
+module _ {p : Geometry} {map : SectorMap} {processes : ProcessTable} {s : State} {who : Who} {q : Process} {path : List ℕ} {f : Found} {n : ℕ} {v : Inode}
+    (at : IsStateOf p map processes s) (has : HasFound s who q false Follow path f) (i : IsInodeFound p map f n v) where
   -- the mode is given
   pub mode_changed : (cred : Credential) (mode : ℕ) (new : SectorMap) → cred ≡ q.cred
       → own_asked q.cred v.uid f.step ≡ None

@@ -3,6 +3,8 @@
 --     asked_refuses, slot_refuses, walk_refuses, demands_refuse        it is refused
 --     found_in        what its walk has found
 --     opens        it is done
+use Rattle.std.specs.Prelude.{false}
+use Rattle.call_parts.specs.Callers.{ByProcess}
 use Rattle.std.specs.Prelude.{◌≡◌, ℕ, ◌≤◌, ◌==◌, nat_le, nat_lt, Bool, true, false, not, ◌&&◌, ◌||◌, cond, List, [], ◌∷◌, ◌++◌, length, Option, None, Some, IsTrue, Result, Ok, Err, IsErr, IsErrAnd}
 use Rattle.std.proofs.Common.{refl, sym, ap, subst, arith, ◌∙◌, inl, inr}
 use Rattle.std.specs.List.{list_any}
@@ -171,14 +173,14 @@ path_checked path f mode asked =
 module _ {p : Geometry} (pid : ℕ) (path : List ℕ) (f : Flags) (mode : ℕ) (old : TxnState) {processes : ProcessTable} (q : Process) (there : get nat_cmp processes pid ≡ Some q) where
   -- the call or its path is refused
   pub asked_refuses : {time : ℕ} (r : Result Reply Refusal) (e : Refusal) → IsErr r → IsErrAnd r (λ y. y ≡ e) → first_of (open_asked f mode path) ≡ Some e
-      → Performs p time pid (Open path f mode) old old processes processes r
+      → Performs p time (ByProcess pid) (Open path f mode) old old processes processes r
   asked_refuses r e err and asked = refused_performs r e err and store_same
       (λ s at. why.early (open_firm s pid q path f mode (same_process at pid q there) ∙ ap (λ (d : Demand). or_else d (full q)) asked))
 
   module _ (asked : first_of (open_asked f mode path) ≡ None) where
     -- all descriptors are used
     pub slot_refuses : {time : ℕ} (r : Result Reply Refusal) (errno : Errno) → IsErr r → IsErrAnd r (λ y. y ≡ Failed errno) → Err errno ≡ slot_in processes pid
-        → Performs p time pid (Open path f mode) old old processes processes r
+        → Performs p time (ByProcess pid) (Open path f mode) old old processes processes r
     slot_refuses r errno err and slot = refused_performs r (Failed errno) err and store_same
         (λ s at. why.early (open_firm s pid q path f mode (same_process at pid q there) ∙ ap (λ (d : Demand). or_else d (full q)) asked
         ∙ full_if q errno (sym (slot ∙ slot_of processes pid q there))))
@@ -193,10 +195,10 @@ module _ {p : Geometry} (pid : ℕ) (path : List ℕ) (f : Flags) (mode : ℕ) (
         -- the walk of the open is refused
         pub walk_refuses : {time : ℕ} (r : Result Reply Refusal) (e : Refusal) → IsErr r → IsErrAnd r (λ y. y ≡ e)
             → ((s : State) → IsStateOf p old.sectors processes s → IsAnswered old.disk mid.disk (walk_of s.room s.tree q.cred 1 (open_form f) q.cwd path) (Err e))
-            → Performs p time pid (Open path f mode) old mid processes processes r
+            → Performs p time (ByProcess pid) (Open path f mode) old mid processes processes r
         walk_refuses r e err and walks = refused_performs r e err and same.store (λ s at. elim (walks s at) [
           | inl is ↦ why.late (firm s at) (late s at (first_refusal s.tree q.cred 1 (open_form f) (trail_in s.room s.tree q.cwd (open_form f, path))) refl is)
-          | inr way ↦ interrupted_refused old.disk mid.disk s pid (Open path f mode) (firm s at) refl e way
+          | inr way ↦ interrupted_refused old.disk mid.disk s (ByProcess pid) (Open path f mode) (firm s at) refl e way
         ])
           where
             late : (s : State) → IsStateOf p old.sectors processes s → (d : Demand)
@@ -208,7 +210,7 @@ module _ {p : Geometry} (pid : ℕ) (path : List ℕ) (f : Flags) (mode : ℕ) (
                 (is ∙ refused_err d (found_by s.room s.tree q.cwd (open_form f, path)) e refused)
 
         module _ (found : Found) (walks : (s : State) → IsStateOf p old.sectors processes s → IsAnswered old.disk mid.disk (walk_of s.room s.tree q.cred 1 (open_form f) q.cwd path) (Ok found)) where
-          pub open_found : (s : State) → IsStateOf p old.sectors processes s → HasFound s pid q (open_form f) path found
+          pub open_found : (s : State) → IsStateOf p old.sectors processes s → HasFound s (ByProcess pid) q false (open_form f) path found
           open_found s at = resolved old.disk mid.disk found (same_process at pid q there) (path_checked path f mode asked) (walks s at)
 
           pub found_in : IsBytes path → (s : State) → IsStateOf p old.sectors processes s → FindsIn p mid.sectors f q found s
@@ -224,9 +226,9 @@ module _ {p : Geometry} (pid : ℕ) (path : List ℕ) (f : Flags) (mode : ℕ) (
           -- what it asks of what was found is refused
           pub demands_refuse : {time : ℕ} (bytes : IsBytes path) (new : TxnState) (r : Result Reply Refusal) (e : Refusal) → IsErr r → IsErrAnd r (λ y. y ≡ e) → SameStore mid new
               → ((s : State) → FindsIn p mid.sectors f q found s → IsRefusedOpen mid.disk new.disk f q found s e)
-              → Performs p time pid (Open path f mode) old new processes processes r
+              → Performs p time (ByProcess pid) (Open path f mode) old new processes processes r
           demands_refuse bytes new r e err and store refused = refused_performs r e err and (store_joined same.store store)
-              (λ s at. answered_refused old.disk new.disk s pid (Open path f mode) (firm s at) refl e {A = ℕ} (first_of (open_demands f (scene_at s q found))) 0
+              (λ s at. answered_refused old.disk new.disk s (ByProcess pid) (Open path f mode) (firm s at) refl e {A = ℕ} (first_of (open_demands f (scene_at s q found))) 0
               (late_is_asked s at) (answered_later new.disk same (refused s (found_in bytes s at))))
 
           -- or it is done
@@ -235,7 +237,7 @@ module _ {p : Geometry} (pid : ℕ) (path : List ℕ) (f : Flags) (mode : ℕ) (
               → d ≡ record { ino = n; offset = 0; read = f.read; write = f.write; append = f.append }
               → now ≡ with_changed processes pid (λ x. with_descriptor x fd d)
               → ((s : State) → FindsIn p mid.sectors f q found s → Reaches p time new.sectors f mode q found s n)
-              → Performs p time pid (Open path f mode) old new processes now (Ok (Fd fd))
+              → Performs p time (ByProcess pid) (Open path f mode) old new processes now (Ok (Fd fd))
           opens bytes table new now store super n d unused d_is now_is reaches = record {
             store = store_joined same.store store;
             super = super ∙ same.sectors 0;

@@ -3,6 +3,7 @@
 --     with_umask, umask_absent, umask_settles        what umask answers
 --     close_by        the row of close
 --     umask_performs        umask in a transaction
+use Rattle.call_parts.specs.Callers.{ByProcess}
 use Rattle.std.specs.Prelude.{◌≡◌, ℕ, ◌%◌, Option, None, Some, Result, Ok, Err, IsErr, IsErrAnd}
 use Rattle.std.proofs.Common.{refl, sym, ap, subst, ◌∙◌}
 use Rattle.std.specs.Ordering.{nat_cmp}
@@ -115,7 +116,7 @@ close_by fd = record { row = close_is fd }
 settled_performs : {p : Geometry} {time pid : ℕ} {call : Call} {old new : TxnState} {before now : ProcessTable} (result : Result Reply Refusal) → IsUnchanged old new
     → Settles pid call before now result
     → ((s : State) → IsStateOf p old.sectors before s → (reply : Reply) → IsSettled s pid call now reply → swept s.tree now ≡ s.tree)
-    → Performs p time pid call old new before now result
+    → Performs p time (ByProcess pid) call old new before now result
 settled_performs {p} {time} {pid} {call} {old} {new} {before} {now} (Ok reply) same settles stays = record {
   store = same.store;
   super = same.sectors 0;
@@ -154,6 +155,6 @@ umask_stays s pid mask now reply at is = go (get nat_cmp s.processes pid) refl
         (λ n was. ap (λ (x : ProcessTable). is_open x n) (sym entered) ∙ still_open s.processes pid q (with_umask mask q) at.is_state.pids there n refl ∙ was)
 
 pub umask_performs : {p : Geometry} {time pid mask : ℕ} {old new : TxnState} {before now : ProcessTable} (result : Result Reply Refusal) → IsUnchanged old new
-    → Settles pid (Umask mask) before now result → Performs p time pid (Umask mask) old new before now result
+    → Settles pid (Umask mask) before now result → Performs p time (ByProcess pid) (Umask mask) old new before now result
 umask_performs {p} {time} {pid} {mask} {old} {new} {before} {now} result same settles =
     settled_performs result same settles (λ s at reply is. umask_stays s pid mask now reply at is)

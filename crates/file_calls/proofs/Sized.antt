@@ -1,4 +1,6 @@
 -- Another size of a file that was found.
+use Rattle.std.specs.Prelude.{false}
+use Rattle.call_parts.specs.Callers.{Who}
 use Rattle.std.specs.Prelude.{◌≡◌, ◌≤◌, ℕ, nat_lt, Bool, true, false, List, [], ◌∷◌, None, Some, Ok, Err}
 use Rattle.std.proofs.Common.{refl, sym, ap, subst, arith, inl, inr, ◌∙◌}
 use Rattle.std.proofs.lemmas.Bool.{cases_lt, lt-ltb}
@@ -68,8 +70,8 @@ truncate_rest size s q f =
     ∷ refuse EFBIG (nat_lt s.room.file_limit size)
     ∷ []
 
-module _ {p : Geometry} {map : SectorMap} {processes : ProcessTable} {s : State} {pid : ℕ} {q : Process} {path : List ℕ} {f : Found} {n : ℕ} {v : Inode}
-    (at : IsStateOf p map processes s) (has : HasFound s pid q Follow path f) (some : f.ino ≡ Some n) (number_is : found_ino f ≡ n) (inode : v ≡ inode_at p map n)
+module _ {p : Geometry} {map : SectorMap} {processes : ProcessTable} {s : State} {who : Who} {q : Process} {path : List ℕ} {f : Found} {n : ℕ} {v : Inode}
+    (at : IsStateOf p map processes s) (has : HasFound s who q false Follow path f) (some : f.ino ≡ Some n) (number_is : found_ino f ≡ n) (inode : v ≡ inode_at p map n)
     (size : ℕ) where
   abbrev last_asked : List Demand
   last_asked = refuse EFBIG (nat_lt (max_file_size p.version) size) ∷ []
@@ -130,8 +132,8 @@ module _ {p : Geometry} {map : SectorMap} {processes : ProcessTable} {s : State}
             (both_met (permission_at_end (scene_at s q f) f 1 (perms false true false)) last_asked granted
             (or_else-none (refuse EFBIG (nat_lt (max_file_size p.version) size)) ∙ fits)))
 
-module _ {p : Geometry} {old : SectorMap} {processes : ProcessTable} {s : State} {pid : ℕ} {q : Process} {path : List ℕ} {f : Found} {n : ℕ} {v : Inode}
-    (at : IsStateOf p old processes s) (has : HasFound s pid q Follow path f) (some : f.ino ≡ Some n) (number_is : found_ino f ≡ n) (inode : v ≡ inode_at p old n)
+module _ {p : Geometry} {old : SectorMap} {processes : ProcessTable} {s : State} {who : Who} {q : Process} {path : List ℕ} {f : Found} {n : ℕ} {v : Inode}
+    (at : IsStateOf p old processes s) (has : HasFound s who q false Follow path f) (some : f.ino ≡ Some n) (number_is : found_ino f ≡ n) (inode : v ≡ inode_at p old n)
     (size : ℕ) where
   -- the file has that size
   size_changed : (new : SectorMap) → must_be_there f ≡ None → refuse EISDIR (is_directory_kind v.kind) ≡ None
@@ -156,8 +158,8 @@ module _ {p : Geometry} {old : SectorMap} {processes : ProcessTable} {s : State}
       (node_is s q f n number_is a) refl
 
 -- so it has after what was asked
-pub resized_found : {p : Geometry} {mid last : TxnState} {processes : ProcessTable} {s : State} {pid : ℕ} {q : Process} {path : List ℕ} {f : Found} {n : ℕ} {v : Inode}
-    → IsStateOf p mid.sectors processes s → HasFound s pid q Follow path f → IsInodeFound p mid.sectors f n v → checked (refuse EISDIR (is_directory_kind v.kind)) ≡ Ok tt
+pub resized_found : {p : Geometry} {mid last : TxnState} {processes : ProcessTable} {s : State} {who : Who} {q : Process} {path : List ℕ} {f : Found} {n : ℕ} {v : Inode}
+    → IsStateOf p mid.sectors processes s → HasFound s who q false Follow path f → IsInodeFound p mid.sectors f n v → checked (refuse EISDIR (is_directory_kind v.kind)) ≡ Ok tt
     → (cred : Credential) → cred ≡ q.cred → {rule : Rule}
     → ((node : AccessNode) → HasAccess mid.sectors v node
     → refused_or {A = Rule} (decided 1 f.step (Perm (perms false true false)) (verdict cred node (perms false true false))) (Ok (verdict cred node (perms false true false)).rule) ≡ Ok rule)

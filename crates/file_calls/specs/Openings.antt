@@ -6,6 +6,7 @@
 --     IsRefusedOpen        what it asks of that refuses it
 --     Reaches        nothing refuses it then, and the map holds the tree after it, in which times have moved
 --     MayOpen, Opens        the whole, once it is found: what it begins with and what it leaves
+use Rattle.call_parts.specs.Callers.{ByProcess}
 use Rattle.std.specs.Prelude.{◌≡◌, ℕ, false, not, ◌&&◌, ◌||◌, List, [], ◌∷◌, ◌++◌, None, unwrap_or, IsTrue, Result, Ok, Err, OnOk, MatchResult}
 use Rattle.sector_disk.specs.Disk.{DiskState}
 use Rattle.fs_cred.specs.declared.refusal.Refusal.{Refusal}
@@ -65,7 +66,7 @@ pub record FindsIn (p : Geometry) (map : SectorMap) (flags : Flags) (q : Process
   pub path : List ℕ
   pub bytes : IsBytes path
   pub is_state : IsStateOf p map processes s
-  pub found : HasFound s pid q (open_form flags) path f
+  pub found : HasFound s (ByProcess pid) q false (open_form flags) path f
 
 -- the demands of an open on what was found refuse it, or what may stand in their place does
 abbrev pub IsRefusedOpen : DiskState → DiskState → Flags → Process → Found → State → Refusal → Type 0

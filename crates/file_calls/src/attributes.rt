@@ -120,7 +120,7 @@ pub fn chmod<S: Sectors>(s: &mut S, caller: &Caller, path: &Path, mode: u16) -> 
     ensures { PerformsFor caller.now (Chmod path.now mode) (S.state s.old) (S.state s.new) result }
 {
     let checks = check_mode(mode);
-    let reached = reach_owned(s, caller, checks, path, Form::Follow)?;
+    let reached = reach_owned(s, caller, checks, path, false, Form::Follow)?;
     let cred = reached.process.cred();
     let ino = reached.ino;
     give_mode(s, caller, cred, ino, &reached.inode, mode)?;
@@ -143,7 +143,7 @@ pub fn chown<S: Sectors>(
     requires ready { IsReadyFor caller.now (S.state s.old) }
     ensures { PerformsFor caller.now (Chown path.now owner group) (S.state s.old) (S.state s.new) result }
 {
-    let reached = reach(s, caller, Ok(()), path, Form::Follow)?;
+    let reached = reach(s, caller, Ok(()), path, true, Form::Follow)?;
     let cred = reached.process.cred();
     let inode = reached.inode;
     let uid = owner.unwrap_or(inode.uid);
@@ -238,7 +238,7 @@ pub fn get_acl<S: Sectors>(s: &mut S, caller: &Caller, path: &Path, which: AclTy
     ensures performs { PerformsFor caller.now (GetAcl path.now which) (S.state s.old) (S.state s.new) result }
     ensures same { IsUnchanged (S.state s.old) (S.state s.new) }
 {
-    let reached = reach(s, caller, Ok(()), path, Form::Follow)?;
+    let reached = reach(s, caller, Ok(()), path, false, Form::Follow)?;
     let acl = shown_acl(s, caller, &reached.inode, which)?;
     Ok(Reply::Acl(acl))
 }
@@ -350,7 +350,7 @@ pub fn set_acl<S: Sectors>(
     ensures { PerformsFor caller.now (SetAcl path.now which (option_copied acl.entry)) (S.state s.old) (S.state s.new) result }
 {
     let checks = check_acl(which, acl);
-    let reached = reach_owned(s, caller, checks, path, Form::Follow)?;
+    let reached = reach_owned(s, caller, checks, path, false, Form::Follow)?;
     let inode = reached.inode;
     check_holder(which, inode.kind)?;
     ask_for_space(s, caller.geometry, which, acl)?;

@@ -19,7 +19,7 @@ mod transfer;
 pub use attributes::{chmod, chown, get_acl, set_acl};
 pub use listing::readdir;
 pub use opening::open;
-pub use performing::perform;
+pub use performing::{perform, perform_for_process};
 pub use process::{close, exit, umask};
 pub use rights::access;
 pub use show::{fstat, lstat, stat};

@@ -6,7 +6,8 @@ ghost use Rattle.fs_layout.specs.Directories.{HasNames};
 ghost use Rattle.fs_model.specs.declared.call.Call.TheVariants.{Readdir};
 ghost use Rattle.fs_model.specs.Listings.{pairs};
 ghost use Rattle.sector_txn.specs.Sectors.{IsUnchanged};
-ghost use Rattle.call_parts.specs.Performing.{IsReadyFor, PerformsFor};
+ghost use Rattle.call_parts.specs.Performing.{IsReadyFor, PerformsBy};
+ghost use Rattle.call_parts.specs.Callers.{ByProcess};
 ghost use Rattle.call_parts.specs.Telling.{ShowsInode, ReadsInode};
 
 use call_parts::{CallResult, Caller, OpenFor, check_is_directory, reach_open};
@@ -69,12 +70,12 @@ fn list_names<S: Sectors>(
 /// Lists a directory: `.`, `..`, and its names in bytewise order.
 ///
 /// EBADF: it isn't open for reading. ENOTDIR: it is no directory.
-pub fn readdir<S: Sectors>(s: &mut S, caller: &Caller, fd: usize) -> CallResult
+pub fn readdir<S: Sectors>(s: &mut S, caller: &Caller, pid: usize, fd: usize) -> CallResult
     requires ready { IsReadyFor caller.now (S.state s.old) }
-    ensures performs { PerformsFor caller.now (Readdir fd) (S.state s.old) (S.state s.new) result }
+    ensures performs { PerformsBy caller.now (ByProcess pid) (Readdir fd) (S.state s.old) (S.state s.new) result }
     ensures same { IsUnchanged (S.state s.old) (S.state s.new) }
 {
-    let (descriptor, inode) = reach_open(s, caller, fd, OpenFor::Reading)?;
+    let (descriptor, inode) = reach_open(s, caller, pid, fd, OpenFor::Reading)?;
     check_is_directory(inode.kind)?;
     let names = list_names(s, caller, descriptor.ino, &inode)?;
     Ok(Reply::Names(names))

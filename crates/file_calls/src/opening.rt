@@ -9,6 +9,7 @@ ghost use Rattle.fs_model.specs.OpenCall.{open_arguments, open_form};
 ghost use Rattle.fs_model.specs.Parts.{ends_with_slash};
 ghost use Rattle.path_walk.specs.Answers.{refused_or};
 ghost use Rattle.path_walk.specs.HeldTrees.{IsThere};
+ghost use Rattle.call_parts.specs.Callers.{ByProcess};
 ghost use Rattle.call_parts.specs.Performing.{MayPerform, Performs};
 ghost use Rattle.call_parts.specs.Telling.{checked, ShowsTree, TellsTree, ShowsInode, ReadsInode};
 ghost use Rattle.file_calls.specs.Openings.{open_asked, open_kind_asked, found_asked, MayOpen, Opens};
@@ -201,7 +202,7 @@ pub fn open<S: Sectors>(
     mode: u16,
 ) -> CallResult
     requires ready { MayPerform asker.geometry (S.state s.old) procs.old }
-    ensures { Performs asker.geometry asker.time asker.pid (Open path.now flags mode)
+    ensures { Performs asker.geometry asker.time (ByProcess asker.pid) (Open path.now flags mode)
         (S.state s.old) (S.state s.new) procs.old procs.new result }
 {
     let caller = asker.caller(procs);

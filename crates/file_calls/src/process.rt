@@ -2,6 +2,7 @@
 
 ghost use Rattle.std.specs.Prelude.{ℕ, ◌≡◌, Ok, IsSome};
 ghost use Rattle.fs_model.specs.declared.call.Call.TheVariants.{Umask, Close};
+ghost use Rattle.call_parts.specs.Callers.{ByProcess};
 ghost use Rattle.call_parts.specs.Performing.{MayPerform, Performs};
 ghost use Rattle.file_calls.specs.Settling.{Settles};
 ghost use Rattle.std.specs.Ordering.{nat_cmp};
@@ -33,7 +34,8 @@ pub fn umask(procs: &mut Procs, pid: usize, mask: u16) -> CallResult
 /// EBADF: it isn't open.
 pub fn close<S: Sectors>(s: &mut S, asker: Asker, procs: &mut Procs, fd: usize) -> CallResult
     requires ready { MayPerform asker.geometry (S.state s.old) procs.old }
-    ensures { (time : ℕ) → Performs asker.geometry time asker.pid (Close fd) (S.state s.old) (S.state s.new) procs.old procs.new result }
+    ensures { (time : ℕ) → Performs asker.geometry time (ByProcess asker.pid) (Close fd)
+        (S.state s.old) (S.state s.new) procs.old procs.new result }
 {
     let descriptor = find_open(procs, asker.pid, fd, OpenFor::Anything)?;
     let ino = descriptor.ino;

@@ -16,7 +16,7 @@ pub fn access<S: Sectors>(s: &mut S, caller: &Caller, path: &Path, want: Perms) 
     ensures performs { PerformsFor caller.now (Access path.now want) (S.state s.old) (S.state s.new) result }
     ensures same { IsUnchanged (S.state s.old) (S.state s.new) }
 {
-    let reached = reach(s, caller, Ok(()), path, Form::Follow)?;
+    let reached = reach(s, caller, Ok(()), path, false, Form::Follow)?;
     let cred = reached.process.cred();
     let step = reached.found.step;
     let inode = &reached.inode;

@@ -1,6 +1,6 @@
 //! What is shown of an object: POSIX.1-2017, stat(), lstat() and fstat().
 
-ghost use Rattle.std.specs.Prelude.{◌≡◌, ◌≢◌, Some, Ok};
+ghost use Rattle.std.specs.Prelude.{◌≡◌, ◌≢◌, Some, Ok, true};
 ghost use Rattle.fs_model.specs.declared.call.Call.{Call};
 ghost use Rattle.fs_model.specs.declared.call.Call.TheVariants.{Stat, Lstat, Fstat};
 ghost use Rattle.fs_model.specs.declared.reply.FileType.{FileType as ShownType};
@@ -8,7 +8,8 @@ ghost use Rattle.fs_model.specs.AttributeCalls.{stat_demands, stat_effect};
 ghost use Rattle.fs_model.specs.Kinds.{type_of_kind};
 ghost use Rattle.sector_txn.specs.Sectors.{IsUnchanged};
 ghost use Rattle.call_parts.specs.Given.{size_shown};
-ghost use Rattle.call_parts.specs.Performing.{IsReadyFor, PerformsFor};
+ghost use Rattle.call_parts.specs.Performing.{IsReadyFor, PerformsBy, PerformsFor};
+ghost use Rattle.call_parts.specs.Callers.{ByProcess, who_of};
 ghost use Rattle.call_parts.specs.Reaching.{WalksPath};
 
 use call_parts::{CallResult, Caller, OpenFor, reach, reach_open};
@@ -57,11 +58,11 @@ fn status(version: Version, ino: u32, inode: &Inode) -> Status
 // Shows what a path leads to. ENOENT: nothing.
 fn show_path<S: Sectors>(s: &mut S, caller: &Caller, path: &Path, form: Form) -> CallResult
     requires ready { IsReadyFor caller.now (S.state s.old) }
-    ensures performs { (call : Call) → WalksPath call (Ok tt) form path.now stat_demands stat_effect
+    ensures performs { (call : Call) → WalksPath (who_of caller.now.by) call (Ok tt) true form path.now stat_demands stat_effect
         → PerformsFor caller.now call (S.state s.old) (S.state s.new) result }
     ensures same { IsUnchanged (S.state s.old) (S.state s.new) }
 {
-    let reached = reach(s, caller, Ok(()), path, form)?;
+    let reached = reach(s, caller, Ok(()), path, true, form)?;
     let version = caller.geometry.version;
     Ok(Reply::Shown(status(version, reached.ino, &reached.inode)))
 }
@@ -85,12 +86,12 @@ pub fn lstat<S: Sectors>(s: &mut S, caller: &Caller, path: &Path) -> CallResult
 }
 
 /// Shows what a descriptor is for. EBADF: nothing.
-pub fn fstat<S: Sectors>(s: &mut S, caller: &Caller, fd: usize) -> CallResult
+pub fn fstat<S: Sectors>(s: &mut S, caller: &Caller, pid: usize, fd: usize) -> CallResult
     requires ready { IsReadyFor caller.now (S.state s.old) }
-    ensures performs { PerformsFor caller.now (Fstat fd) (S.state s.old) (S.state s.new) result }
+    ensures performs { PerformsBy caller.now (ByProcess pid) (Fstat fd) (S.state s.old) (S.state s.new) result }
     ensures same { IsUnchanged (S.state s.old) (S.state s.new) }
 {
-    let (descriptor, inode) = reach_open(s, caller, fd, OpenFor::Anything)?;
+    let (descriptor, inode) = reach_open(s, caller, pid, fd, OpenFor::Anything)?;
     let version = caller.geometry.version;
     Ok(Reply::Shown(status(version, descriptor.ino, &inode)))
 }

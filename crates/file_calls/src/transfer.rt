@@ -7,7 +7,8 @@ ghost use Rattle.fs_model.specs.declared.call.Call.TheVariants.{Read, Lseek, Wri
 ghost use Rattle.fs_model.specs.DescriptorCalls.{seekable};
 ghost use Rattle.fs_model.specs.Limits.{run_limit, free_for, write_limit};
 ghost use Rattle.sector_txn.specs.Sectors.{IsUnchanged};
-ghost use Rattle.call_parts.specs.Performing.{MayPerform, Performs, IsReadyFor, PerformsFor};
+ghost use Rattle.call_parts.specs.Performing.{MayPerform, Performs, IsReadyFor, PerformsBy, PerformsFor};
+ghost use Rattle.call_parts.specs.Callers.{ByProcess};
 ghost use Rattle.call_parts.specs.Telling.{ReadsInode, checked};
 ghost use Rattle.fs_layout.specs.declared.inode.Kind.TheVariants.{File};
 ghost use Rattle.fs_layout.specs.Bytes.{overwritten, resized};
@@ -72,12 +73,12 @@ pub fn read<S: Sectors>(
     len: usize,
 ) -> CallResult
     requires ready { MayPerform asker.geometry (S.state s.old) procs.old }
-    ensures performs { Performs asker.geometry asker.time asker.pid (Read fd len)
+    ensures performs { Performs asker.geometry asker.time (ByProcess asker.pid) (Read fd len)
         (S.state s.old) (S.state s.new) procs.old procs.new result }
     ensures same { IsUnchanged (S.state s.old) (S.state s.new) }
 {
     let caller = asker.caller(procs);
-    let (descriptor, inode) = reach_open(s, &caller, fd, OpenFor::Reading)?;
+    let (descriptor, inode) = reach_open(s, &caller, asker.pid, fd, OpenFor::Reading)?;
     check_no_directory(inode.kind)?;
     let bytes = read_bytes(asker.alloc, s, &inode, descriptor.offset, len)?;
     procs.seek(
@@ -127,12 +128,12 @@ pub fn lseek<S: Sectors>(
     by: i64,
 ) -> CallResult
     requires ready { MayPerform asker.geometry (S.state s.old) procs.old }
-    ensures performs { Performs asker.geometry asker.time asker.pid (Lseek fd whence by)
+    ensures performs { Performs asker.geometry asker.time (ByProcess asker.pid) (Lseek fd whence by)
         (S.state s.old) (S.state s.new) procs.old procs.new result }
     ensures same { IsUnchanged (S.state s.old) (S.state s.new) }
 {
     let caller = asker.caller(procs);
-    let (descriptor, inode) = reach_open(s, &caller, fd, OpenFor::Anything)?;
+    let (descriptor, inode) = reach_open(s, &caller, asker.pid, fd, OpenFor::Anything)?;
     check_no_directory(inode.kind)?;
     let Some(offset) = moved(base(whence, descriptor.offset, inode.size), by) else {
         return Err(Refusal::Failed(Errno::EINVAL));
@@ -200,7 +201,8 @@ pub fn write<S: Sectors>(
     bytes: &Bytes,
 ) -> CallResult
     requires ready { MayPerform asker.geometry (S.state s.old) procs.old }
-    ensures { Performs asker.geometry asker.time asker.pid (Write fd bytes.now) (S.state s.old) (S.state s.new) procs.old procs.new result }
+    ensures { Performs asker.geometry asker.time (ByProcess asker.pid) (Write fd bytes.now)
+        (S.state s.old) (S.state s.new) procs.old procs.new result }
 {
     let descriptor = find_open(procs, asker.pid, fd, OpenFor::Writing)?;
     let bytes = bytes.bytes();
@@ -264,7 +266,7 @@ pub fn truncate<S: Sectors>(s: &mut S, caller: &Caller, path: &Path, size: u64) 
     requires ready { IsReadyFor caller.now (S.state s.old) }
     ensures { PerformsFor caller.now (Truncate path.now size) (S.state s.old) (S.state s.new) result }
 {
-    let reached = reach(s, caller, Ok(()), path, Form::Follow)?;
+    let reached = reach(s, caller, Ok(()), path, false, Form::Follow)?;
     let inode = reached.inode;
     check_no_directory(inode.kind)?;
     let cred = reached.process.cred();
@@ -280,11 +282,17 @@ pub fn truncate<S: Sectors>(s: &mut S, caller: &Caller, path: &Path, size: u64) 
 /// Cuts the file of a descriptor, or fills it up with zeros.
 ///
 /// EBADF: it isn't open for writing. EFBIG: the size is more than a file may have on this disk.
-pub fn ftruncate<S: Sectors>(s: &mut S, caller: &Caller, fd: usize, size: u64) -> CallResult
+pub fn ftruncate<S: Sectors>(
+    s: &mut S,
+    caller: &Caller,
+    pid: usize,
+    fd: usize,
+    size: u64,
+) -> CallResult
     requires ready { IsReadyFor caller.now (S.state s.old) }
-    ensures { PerformsFor caller.now (Ftruncate fd size) (S.state s.old) (S.state s.new) result }
+    ensures { PerformsBy caller.now (ByProcess pid) (Ftruncate fd size) (S.state s.old) (S.state s.new) result }
 {
-    let (descriptor, inode) = reach_open(s, caller, fd, OpenFor::Writing)?;
+    let (descriptor, inode) = reach_open(s, caller, pid, fd, OpenFor::Writing)?;
     check_size(caller.geometry, size)?;
     let ino = descriptor.ino;
     give_size(s, caller.geometry, ino, inode, size)?;

@@ -11,7 +11,7 @@ use Rattle.fs_layout.proofs.MapLaws.{with_entry-IsMap}
 use Rattle.fs_layout.proofs.NameMaps.{leading-with_name, once_same}
 use Rattle.fs_model.specs.declared.call.Call.{Call}
 use Rattle.fs_model.specs.declared.event.Event.{Event}
-use Rattle.fs_model.specs.declared.event.Event.TheVariants.{Spawn, Exit, Call as Calls, Enter, Stamp, Clock, Fsync, Sync, Statfs, Arm, Restart}
+use Rattle.fs_model.specs.declared.event.Event.TheVariants.{Spawn, Exit, Call as Calls, CallAt, Enter, Stamp, Clock, Fsync, Sync, Statfs, Arm, Restart}
 use Rattle.fs_model.specs.declared.reply.Reply.{Reply}
 use Rattle.fs_model.specs.Nodes.{Node, names_of_body}
 use Rattle.fs_model.specs.Trees.{Tree, Room, node_at, with_node, names_of}
@@ -266,6 +266,7 @@ module _ (pid : ℕ) (p : Process) (s t s' t' : State) (c d : Choice) (reply rep
   acts_alike (Fsync by fd) fits of free act now x act' now' y = by_second (Fsync by fd) fits of free x y refl
   acts_alike (Exit by) fits of free act now x act' now' y = by_second (Exit by) fits of free x y refl
   acts_alike (Spawn cred) fits of free act now x act' now' y = absurd of
+  acts_alike (CallAt v call) fits of free act now x act' now' y = absurd of
   acts_alike (Enter by directory second) fits of free act now x act' now' y = absurd of
   acts_alike (Stamp n atime mtime ctime) fits of free act now x act' now' y = absurd of
   acts_alike (Clock time) fits of free act now x act' now' y = absurd of

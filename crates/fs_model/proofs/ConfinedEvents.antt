@@ -11,20 +11,22 @@ use Rattle.fs_model.specs.Processes.{Process, ProcessTable}
 use Rattle.fs_model.specs.TreeChanges.{swept}
 use Rattle.fs_model.specs.States.{State, IsState}
 use Rattle.fs_model.specs.Alike.{seen_by, AreAlike}
-use Rattle.fs_model.specs.Ranges.{IsCall, IsEvent}
+use Rattle.fs_model.specs.Ranges.{IsEvent}
 use Rattle.fs_model.specs.Rows.{row_of}
-use Rattle.fs_model.specs.Steps.{Choice, Acts, after, after_effect, state_after, early_refusal, late_refusal, HasNewNumber}
+use Rattle.fs_model.specs.Steps.{Choice, Acts, after, after_effect, state_after, early_refusal, late_refusal, scene_of}
 use Rattle.fs_model.specs.Confinement.{IsConfined, StepBy, early, late, done, IsOf, AnswerAlike}
 use Rattle.fs_layout.proofs.FirstEntries.{ties}
 use Rattle.fs_model.proofs.SeenTrees.{swept-seen}
 use Rattle.std.specs.Prelude.{true, not, is_some}
 use Rattle.std.specs.Ordering.{eq_by_cmp}
-use Rattle.fs_model.specs.declared.event.Event.TheVariants.{Spawn, Exit, Call as Calls, Enter, Stamp, Clock, Fsync, Sync, Statfs, Arm, Restart}
+use Rattle.fs_model.specs.declared.event.Event.TheVariants.{Spawn, Exit, Call as Calls, CallAt, Enter, Stamp, Clock, Fsync, Sync, Statfs, Arm, Restart}
 use Rattle.fs_model.specs.declared.reply.Reply.TheVariants.{Done}
 use Rattle.fs_layout.specs.Maps.{without, IsMap}
 use Rattle.fs_model.specs.Steps.{after_call, unchanged, firm_refusal, other_refusal, demand_of}
 use Rattle.fs_model.proofs.Swept.{kept, get-filter}
-use Rattle.fs_model.proofs.ConfinedSteps.{effect_in, left_by, same_reply, same_process, left_alike, Confines, same_processes, here_alike, same_seen}
+use Rattle.fs_model.proofs.ConfinedSteps.{ComesFromSeen, Confines, effect_of, left_by, IsConfinedIn, same_reply, same_here, left_alike, same_processes, here_alike, same_seen}
+use Rattle.fs_model.proofs.SeenScenes.{scene_of-seen}
+use Rattle.fs_model.proofs.StepsDemands.{early_met, demands_met}
 use Rattle.fs_model.proofs.VeiledRefusals.{same_firm, same_other}
 use Rattle.fs_model.proofs.EachCall.{each_call}
 
@@ -86,31 +88,37 @@ unfolding other_refusal
 other_is s pid p call here e = ap (demand_of (λ p. late_refusal s p (row_of call))) (sym here) ∙ e
 
 after_is : (s : State) (pid : ℕ) (p : Process) (call : Call) (choice : Choice) → get nat_cmp s.processes pid ≡ Some p
-    → after s (Calls pid call) choice ≡ after_effect s pid (effect_in pid p (row_of call) choice.ino choice.free s)
+    → after s (Calls pid call) choice ≡ after_effect s pid (effect_of p (row_of call) choice.ino s)
 unfolding after
 after_is s pid p call choice here = ap (after_call s pid (row_of call) choice.ino) here
 
+call_confined : (pid : ℕ) (p : Process) (call : Call) (number free : ℕ) (u : State) → Confines call → IsState u → IsConfined p.cred
+    → early_refusal p (row_of call) ≡ None → late_refusal u p (row_of call) ≡ None
+    → IsConfinedIn (Some pid) p (effect_of p (row_of call) number) free u
+call_confined pid p call number free u conf is confined asked met =
+    let row = row_of call in
+    subst (λ c. ComesFromSeen p u (row.effect c number) (row.effect (scene_of u p row) number)) (sym (scene_of-seen p p u row))
+    (conf (scene_of u p row) number is confined (early_met p row asked) (demands_met u p row met))
+
 call_acts : (pid : ℕ) (call : Call) → Confines call → (p : Process) (s t : State) (choice : Choice)
-    → IsState s → IsState t → IsConfined p.cred → IsCall call → Acts s (Calls pid call) choice → Acts t (Calls pid call) choice
+    → IsState s → IsState t → IsConfined p.cred → Acts s (Calls pid call) choice → Acts t (Calls pid call) choice
     → get nat_cmp s.processes pid ≡ Some p → AreAlike pid s t
     → AnswerAlike pid (after s (Calls pid call) choice).reply (after t (Calls pid call) choice).reply
     (state_after s (after s (Calls pid call) choice) choice.free) (state_after t (after t (Calls pid call) choice) choice.free)
-call_acts pid call conf p s t choice is js confined fits act act' here alike =
+call_acts pid call conf p s t choice is js confined act act' here alike =
     let there : get nat_cmp t.processes pid ≡ Some p = ap (λ processes. get nat_cmp processes pid) (sym (same_processes pid s t alike)) ∙ here in
     let a = after_is s pid p call choice here in
     let b = after_is t pid p call choice there in
-    let row = row_of call in
-    let x = conf s pid p choice.ino choice.free is act.running here confined fits (firm_is s pid p call here act.early) (other_is s pid p call here act.late)
-    (subst (λ a. HasNewNumber s a.change) a act.allowed.number) in
-    let y = conf t pid p choice.ino choice.free js act'.running there confined fits (firm_is t pid p call there act'.early) (other_is t pid p call there act'.late)
-    (subst (λ a. HasNewNumber t a.change) b act'.allowed.number) in
+    let e = effect_of p (row_of call) choice.ino in
+    let x = call_confined pid p call choice.ino choice.free s conf is confined (firm_is s pid p call here act.early) (other_is s pid p call here act.late) in
+    let y = call_confined pid p call choice.ino choice.free t conf js confined (firm_is t pid p call there act'.early) (other_is t pid p call there act'.late) in
     let same = same_seen pid p s t alike here in
     subst (λ m. AnswerAlike pid m.reply (after t (Calls pid call) choice).reply (state_after s m choice.free) (state_after t (after t (Calls pid call) choice) choice.free)) (sym a)
-    (subst (λ m. AnswerAlike pid (effect_in pid p row choice.ino choice.free s).reply m.reply (left_by pid p row choice.ino choice.free s) (state_after t m choice.free)) (sym b)
+    (subst (λ m. AnswerAlike pid (e s).reply m.reply (left_by (Some pid) p e choice.free s) (state_after t m choice.free)) (sym b)
     (record {
-      replies = same_reply pid p row choice.ino choice.free s t same x y;
-      process = same_process pid p row choice.ino choice.free s t same x y;
-      alike = λ _. left_alike pid p row choice.ino choice.free s t act.running act'.running same x y;
+      replies = same_reply (Some pid) p e choice.free s t same x y;
+      process = same_here pid p e choice.free s t same x y;
+      alike = λ _. left_alike pid p e choice.free s t same x y act.running act'.running;
     }))
 
 pub confines_call : (by : ℕ) (call : Call) → Confines call → ConfinesEvent (Calls by call)
@@ -118,7 +126,7 @@ confines_call by call conf = confines_event (Calls by call) (λ pid p s t choice
     subst (λ q. get nat_cmp s.processes q ≡ Some p → AreAlike q s t
     → AnswerAlike q (after s (Calls by call) choice).reply (after t (Calls by call) choice).reply
     (state_after s (after s (Calls by call) choice) choice.free) (state_after t (after t (Calls by call) choice) choice.free)) of
-    (call_acts by call conf p s t choice is js confined fits.1 act act') here alike)
+    (call_acts by call conf p s t choice is js confined act act') here alike)
 
 -- ---- fsync
 
@@ -181,6 +189,7 @@ confined (Calls by call) = confines_call by call (each_call call).confines
 confined (Fsync by fd) = confines_fsync by fd
 confined (Exit by) = confines_exit by
 confined (Spawn cred) = λ _ _ _ _ _ _ _ _ _ _ _ _ _ _ of. absurd of
+confined (CallAt v call) = λ _ _ _ _ _ _ _ _ _ _ _ _ _ _ of. absurd of
 confined (Enter by directory second) = λ _ _ _ _ _ _ _ _ _ _ _ _ _ _ of. absurd of
 confined (Stamp n atime mtime ctime) = λ _ _ _ _ _ _ _ _ _ _ _ _ _ _ of. absurd of
 confined (Clock time) = λ _ _ _ _ _ _ _ _ _ _ _ _ _ _ of. absurd of

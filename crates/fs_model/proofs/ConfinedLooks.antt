@@ -9,30 +9,23 @@ use Rattle.fs_model.specs.declared.call.Call.TheVariants.{Fstat, Stat, Lstat, Ac
 use Rattle.fs_model.specs.declared.reply.Reply.TheVariants.{Shown, Acl, Target, Names}
 use Rattle.fs_model.specs.Nodes.{Node, is_directory, names_of_body, target_in, type_of, shown_mode, shown_size, acl_in, default_in, accessed}
 use Rattle.fs_model.specs.Trees.{parent, names_of}
-use Rattle.fs_model.specs.Processes.{Process, the_descriptor}
+use Rattle.fs_model.specs.Processes.{the_descriptor}
 use Rattle.fs_model.specs.Births.{the_node}
 use Rattle.fs_model.specs.TreeChanges.{Same, changed, touches}
-use Rattle.fs_model.specs.States.{State}
-use Rattle.fs_model.specs.Alike.{sees_into, seen_by, tree_seen}
+use Rattle.fs_model.specs.Alike.{sees_into, tree_seen}
 use Rattle.fs_model.specs.Rows.{row_of}
 use Rattle.fs_model.specs.Scenes.{Scene, Row, found_ino, node_found, body_found}
-use Rattle.fs_model.specs.Steps.{scene_of}
 use Rattle.fs_model.specs.DescriptorCalls.{shown}
 use Rattle.fs_model.specs.AttributeCalls.{granted_by, acl_shown}
 use Rattle.fs_model.proofs.Veils.{veil, accessed-blotted, target_in-blotted, names_in-blotted, directory_in-blotted, parent-veil}
-use Rattle.fs_model.proofs.VeiledScenes.{veiled_scene, veiled_state-seen, scene_of-veil, the_node-veil, names_of-veil, type_of-blotted, shown_mode-blotted, shown_size-blotted, acl_in-blotted, default_in-blotted}
+use Rattle.fs_model.proofs.VeiledScenes.{veiled_scene, veiled_state-seen, the_node-veil, names_of-veil, type_of-blotted, shown_mode-blotted, shown_size-blotted, acl_in-blotted, default_in-blotted}
 use Rattle.fs_model.proofs.SeenTrees.{tree_seen-less, sees_no_more}
-use Rattle.fs_model.proofs.ConfinedSteps.{IsConfinedAt, Confines}
+use Rattle.fs_model.proofs.ConfinedSteps.{seen_scene, IsConfinedAt, Confines}
 
 -- what depends on no byte is the same in what the process sees
-pub by_veil : {X : Type 0} (f : Scene → X) → ((c : Scene) → f (veiled_scene c) ≡ f c)
-    → (u : State) (p : Process) (row : Row) → f (scene_of (seen_by (Some p) u) p row) ≡ f (scene_of u p row)
-by_veil f same u p row =
-    sym (same (scene_of (seen_by (Some p) u) p row))
-    ∙ ap f (sym (scene_of-veil (seen_by (Some p) u) p row))
-    ∙ ap (λ s. f (scene_of s p row)) (veiled_state-seen (Some p) u)
-    ∙ ap f (scene_of-veil u p row)
-    ∙ same (scene_of u p row)
+pub by_veil : {X : Type 0} (f : Scene → X) → ((c : Scene) → f (veiled_scene c) ≡ f c) → (c : Scene) → f (seen_scene c) ≡ f c
+by_veil f same c =
+    sym (same (seen_scene c)) ∙ ap (λ s. f (record c { state = s })) (veiled_state-seen (Some c.process) c.state) ∙ same c
 
 -- a row that changes no tree, answers what depends on no byte, and leaves a process that sees no more
 pub record IsLook (row : Row) (number : ℕ) : Type 0 where
@@ -41,18 +34,20 @@ pub record IsLook (row : Row) (number : ℕ) : Type 0 where
   pub reply : (c : Scene) → (row.effect (veiled_scene c) number).reply ≡ (row.effect c number).reply
   pub less : (c : Scene) (n : ℕ) (node : Node) → sees_into (row.effect c number).process n node ≡ true → sees_into c.process n node ≡ true
 
-pub look_confined : (u : State) (pid : ℕ) (p : Process) (row : Row) (number free : ℕ) → IsLook row number → IsConfinedAt pid p row number free u
-look_confined u pid p row number free is =
-    let a = is.change (scene_of (seen_by (Some p) u) p row) in
-    let b = is.change (scene_of u p row) in
-    let q = (row.effect (scene_of u p row) number).process in
+pub look_confined : (c : Scene) (row : Row) (number : ℕ) → IsLook row number → IsConfinedAt c row number
+look_confined c row number is =
+    let u = c.state in
+    let p = c.process in
+    let a = is.change (seen_scene c) in
+    let b = is.change c in
+    let q = (row.effect c number).process in
     record {
-      process = by_veil (λ c. (row.effect c number).process) is.process u p row;
-      reply = by_veil (λ c. (row.effect c number).reply) is.reply u p row;
+      process = by_veil (λ c. (row.effect c number).process) is.process c;
+      reply = by_veil (λ c. (row.effect c number).reply) is.reply c;
       moved = ap (touches u.room (tree_seen p u.tree)) a ∙ ap (touches u.room u.tree) (sym b);
       tree =
           ap (λ ch. tree_seen q (changed (tree_seen p u.tree) ch)) a
-          ∙ tree_seen-less p q u.tree (sees_no_more p q (is.less (scene_of u p row)) u.tree)
+          ∙ tree_seen-less p q u.tree (sees_no_more p q (is.less c) u.tree)
           ∙ ap (λ ch. tree_seen q (changed u.tree ch)) (sym b);
     }
 
@@ -98,7 +93,7 @@ looks row number same stays reply = record {
 }
 
 pub look_at : (call : Call) → ((new : ℕ) → IsLook (row_of call) new) → Confines call
-look_at call is u pid p new free _ _ _ _ _ _ _ _ = look_confined u pid p (row_of call) new free (is new)
+look_at call is c new _ _ _ _ = look_confined c (row_of call) new (is new)
 
 pub stat_confined : (path : List ℕ) → Confines (Stat path)
 unfolding row_of

@@ -12,16 +12,14 @@ use Rattle.fs_model.specs.Trees.{Tree, Room, node_at, with_node, lookup, lookup_
 use Rattle.fs_model.specs.Processes.{Process}
 use Rattle.fs_model.specs.Births.{the_node, the_directory, born_directory, born_link}
 use Rattle.fs_model.specs.TreeChanges.{Change, Same, Rewrite, Make, AddName, TakeName, MoveName, changed, touches, changed_at, named, unnamed, with_names_at}
-use Rattle.fs_model.specs.States.{State}
-use Rattle.fs_model.specs.Alike.{sees_into, node_seen, tree_seen, seen_by}
+use Rattle.fs_model.specs.Alike.{sees_into, node_seen, tree_seen}
 use Rattle.fs_model.specs.Rows.{row_of}
 use Rattle.fs_model.specs.Scenes.{Scene, Row, dir_node}
-use Rattle.fs_model.specs.Steps.{scene_of}
 use Rattle.fs_model.specs.RenameCall.{is_same}
 use Rattle.fs_model.proofs.Veils.{veiled, names_in-blotted, directory_in-blotted}
 use Rattle.fs_model.proofs.VeiledScenes.{veiled_scene, the_node-veil}
 use Rattle.fs_model.proofs.SeenTrees.{node_at-seen, with_node-seen, tree_seen-less, sees_no_more}
-use Rattle.fs_model.proofs.ConfinedSteps.{IsConfinedAt, Confines}
+use Rattle.fs_model.proofs.ConfinedSteps.{seen_scene, IsConfinedAt, Confines}
 use Rattle.fs_model.proofs.ConfinedLooks.{by_veil}
 
 module _ (p : Process) where
@@ -127,23 +125,22 @@ pub record IsNaming (row : Row) (number : ℕ) : Type 0 where
   pub reply : (c : Scene) → (row.effect (veiled_scene c) number).reply ≡ (row.effect c number).reply
   pub kept : (p : Process) (c : Scene) → IsKept p (row.effect c number).change
 
-naming_confined : (u : State) (pid : ℕ) (p : Process) (row : Row) (number free : ℕ) → IsNaming row number → IsConfinedAt pid p row number free u
-naming_confined u pid p row number free is =
-    let c = scene_of u p row in
+naming_confined : (c : Scene) (row : Row) (number : ℕ) → IsNaming row number → IsConfinedAt c row number
+naming_confined c row number is =
+    let u = c.state in
+    let p = c.process in
     let q = is.process c in
+    let change = by_veil (λ c. (row.effect c number).change) is.change c in
     record {
-      process = is.process (scene_of (seen_by (Some p) u) p row) ∙ sym q;
-      reply = by_veil (λ c. (row.effect c number).reply) is.reply u p row;
-      moved =
-          ap (touches u.room (tree_seen p u.tree)) (by_veil (λ c. (row.effect c number).change) is.change u p row)
-          ∙ touches_seen p u.room u.tree (row.effect c number).change;
-      tree = subst (λ q. tree_seen q (changed (tree_seen p u.tree) (row.effect (scene_of (seen_by (Some p) u) p row) number).change) ≡ tree_seen q (changed u.tree (row.effect c number).change))
-          (sym q)
-          (ap (λ ch. tree_seen p (changed (tree_seen p u.tree) ch)) (by_veil (λ c. (row.effect c number).change) is.change u p row) ∙ is.kept p c u.tree);
+      process = is.process (seen_scene c) ∙ sym q;
+      reply = by_veil (λ c. (row.effect c number).reply) is.reply c;
+      moved = ap (touches u.room (tree_seen p u.tree)) change ∙ touches_seen p u.room u.tree (row.effect c number).change;
+      tree = subst (λ q. tree_seen q (changed (tree_seen p u.tree) (row.effect (seen_scene c) number).change) ≡ tree_seen q (changed u.tree (row.effect c number).change))
+          (sym q) (ap (λ ch. tree_seen p (changed (tree_seen p u.tree) ch)) change ∙ is.kept p c u.tree);
     }
 
 name_by : (call : Call) → ((new : ℕ) → IsNaming (row_of call) new) → Confines call
-name_by call is u pid p new free _ _ _ _ _ _ _ _ = naming_confined u pid p (row_of call) new free (is new)
+name_by call is c new _ _ _ _ = naming_confined c (row_of call) new (is new)
 
 pub unlink_confined : (path : List ℕ) → Confines (Unlink path)
 unfolding row_of

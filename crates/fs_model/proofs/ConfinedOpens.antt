@@ -18,16 +18,15 @@ use Rattle.fs_model.specs.Processes.{Process, least_unused}
 use Rattle.fs_model.specs.Births.{the_node, no_node, born_file}
 use Rattle.fs_model.specs.declared.touch.Touch.TheVariants.{Modified}
 use Rattle.fs_model.specs.TreeChanges.{Change, Same, Rewrite, Make, changed, touches, with_names_at}
-use Rattle.fs_model.specs.Alike.{may_read, sees_into, node_seen, tree_seen, seen_by}
+use Rattle.fs_model.specs.Alike.{may_read, sees_into, node_seen, tree_seen}
 use Rattle.fs_model.specs.Demands.{Demand, perms, permission_of, accessed_at, decided}
 use Rattle.fs_model.specs.Rows.{row_of}
 use Rattle.fs_model.specs.Scenes.{is_found, found_ino, dir_node}
-use Rattle.fs_model.specs.Steps.{scene_of}
-use Rattle.fs_model.specs.OpenCall.{open_row, open_found_demands, open_new_demands, open_process}
+use Rattle.fs_model.specs.OpenCall.{open_found_demands, open_new_demands, open_process}
 use Rattle.fs_model.proofs.Swept.{at_first, at_rest}
 use Rattle.fs_model.proofs.StepsNaming.{at_it}
 use Rattle.fs_model.proofs.StepsProcesses.{in_with_entry}
-use Rattle.fs_model.proofs.StepsDemands.{AreMet, demands_met}
+use Rattle.fs_model.proofs.StepsDemands.{AreMet}
 use Rattle.fs_model.proofs.ReadsLess.{reads_less}
 use Rattle.fs_model.proofs.Veils.{veiled}
 use Rattle.fs_model.proofs.SeenTrees.{SeesNoMore, tree_seen-less, the_node-seen}
@@ -168,30 +167,24 @@ opened_tree p flags t is new (Some n) dir_ino name node own bare reads empties =
 
 pub open_confined : (path : List ℕ) (flags : Flags) (mode : ℕ) → Confines (Open path flags mode)
 unfolding row_of
-open_confined path flags mode u pid p new free is runs here confined fits asked met fresh =
-    let row = open_row path flags mode in
-    let c = scene_of u p row in
-    let v = scene_of (seen_by (Some p) u) p row in
+open_confined path flags mode c new is confined asked met =
+    let u = c.state in
+    let p = c.process in
     let f = c.first in
     let seen = tree_seen p u.tree in
     let empties = flags.trunc && flags.write in
-    let first : v.first ≡ f = by_veil (λ c. c.first) (λ c. refl) u p row in
     let made : born_file p.cred p.umask mode (the_node seen f.dir_ino) ≡ born_file p.cred p.umask mode (the_node u.tree f.dir_ino) =
-    ap (λ g. born_file p.cred p.umask mode (the_node seen g.dir_ino)) (sym first)
-    ∙ by_veil (λ c. born_file c.process.cred c.process.umask mode (dir_node c c.first)) (λ c. let a = dir_veil c in let b = group_veil c in cc) u p row in
+    by_veil (λ c. born_file c.process.cred c.process.umask mode (dir_node c c.first)) (λ c. let a = dir_veil c in let b = group_veil c in cc) c in
     let q = open_process p flags (unwrap_or f.ino new) in
     let reads : is_found f ≡ true → flags.read ≡ true → may_read p (accessed (the_node u.tree (found_ino f))) ≡ true = λ found r. (
-    let asks = subst (λ b. AreMet (cond b (open_found_demands flags c) (open_new_demands flags c))) found (demands_met u p row met) in
+    let asks = subst (λ b. AreMet (cond b (open_found_demands flags c) (open_new_demands flags c))) found met in
     ap (may_read p) (sym (accessed_the (node_at u.tree (found_ino f)))) ∙ granted_reads p (accessed_at u.tree (found_ino f)) flags.read flags.write f.step asks.1.1.1.1.0 r) in
     record {
-      process = ap (λ g. open_process p flags (unwrap_or g.ino new)) first;
+      process = refl;
       reply = refl;
-      moved =
-          ap (λ g. touches u.room seen (open_to (is_found g) empties g.dir_ino g.name new (born_file p.cred p.umask mode (the_node seen g.dir_ino)) (found_ino g) (the_node seen (found_ino g)))) first
-          ∙ open_touches u.room seen u.tree (is_found f) empties f.dir_ino f.name new _ _ (found_ino f) _ _;
+      moved = open_touches u.room seen u.tree (is_found f) empties f.dir_ino f.name new _ _ (found_ino f) _ _;
       tree =
-          ap (λ g. tree_seen q (changed seen (open_to (is_found g) empties g.dir_ino g.name new (born_file p.cred p.umask mode (the_node seen g.dir_ino)) (found_ino g) (the_node seen (found_ino g))))) first
-          ∙ ap (λ x. tree_seen q (changed seen (open_to (is_found f) empties f.dir_ino f.name new x (found_ino f) (the_node seen (found_ino f))))) made
+          ap (λ x. tree_seen q (changed seen (open_to (is_found f) empties f.dir_ino f.name new x (found_ino f) (the_node seen (found_ino f))))) made
           ∙ ap (λ x. tree_seen q (changed seen (open_to (is_found f) empties f.dir_ino f.name new (born_file p.cred p.umask mode (the_node u.tree f.dir_ino)) (found_ino f) x))) (the_node-seen p u.tree (found_ino f))
           ∙ opened_tree p flags u.tree is.tree.numbers new f.ino f.dir_ino f.name (born_file p.cred p.umask mode (the_node u.tree f.dir_ino)) refl refl reads empties;
     }

@@ -19,10 +19,9 @@ use Rattle.fs_model.specs.Processes.{Process, Descriptor, no_descriptor, descrip
 use Rattle.fs_model.specs.Births.{the_node}
 use Rattle.fs_model.specs.Alike.{sees_into, may_read, seen_by}
 use Rattle.fs_model.specs.Rows.{row_of}
-use Rattle.fs_model.specs.DescriptorCalls.{read_row}
 use Rattle.fs_model.proofs.Veils.{veiled}
 use Rattle.fs_model.proofs.VeiledDemands.{sought-veil}
-use Rattle.fs_model.proofs.StepsDemands.{unrefused, early_met, is_read_here}
+use Rattle.fs_model.proofs.StepsDemands.{unrefused, is_read_here}
 use Rattle.fs_model.proofs.SeenTrees.{the_node-seen, tree_seen-less, sees_no_more}
 use Rattle.fs_model.proofs.ConfinedSteps.{Confines}
 use Rattle.fs_model.proofs.ConfinedLooks.{look_at}
@@ -140,10 +139,11 @@ open_sees p fd node r =
 
 pub read_confined : (fd len : ℕ) → Confines (Read fd len)
 unfolding row_of
-read_confined fd len u pid p new free is runs here confined fits asked met fresh =
+read_confined fd len c new is confined asked met =
+    let u = c.state in
+    let p = c.process in
     let n = (the_descriptor p fd).ino in
-    let met = early_met p (read_row fd len) asked in
-    let r : (the_descriptor p fd).read ≡ true = not-false _ (unrefused EBADF (not (the_descriptor p fd).read) met.0) in
+    let r : (the_descriptor p fd).read ≡ true = not-false _ (unrefused EBADF (not (the_descriptor p fd).read) asked.0) in
     let node = the_node u.tree n in
     let same : the_node (seen_by (Some p) u).tree n ≡ node = the_node-seen p u.tree n ∙ ap (λ b. cond b node (veiled node)) (open_sees p fd node r) in
     let offset = (the_descriptor p fd).offset in

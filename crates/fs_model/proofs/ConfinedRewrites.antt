@@ -1,8 +1,6 @@
 -- Calls that rewrite one node are confined.
-use Rattle.fs_model.specs.declared.touch.Touch.TheVariants.{Changed, Modified}
-use Rattle.std.specs.Prelude.{if◌then◌else◌}
 use Rattle.fs_model.specs.declared.reply.Stamps.{Stamps}
-use Rattle.std.specs.Prelude.{◌≡◌, ℕ, ◌+◌, ◌==◌, min, Bool, true, false, ◌||◌, ◌&&◌, cond, List, [], ◌∷◌, length, take, replicate, Option, None, Some, IsFalse}
+use Rattle.std.specs.Prelude.{◌≡◌, ℕ, ◌+◌, ◌==◌, min, Bool, true, false, ◌||◌, ◌&&◌, cond, List, [], ◌∷◌, length, take, replicate, Option, None, IsFalse}
 use Rattle.std.proofs.Common.{refl, sym, ap, ◌∙◌, arith}
 use Rattle.std.proofs.lemmas.List.{length-replicate}
 use Rattle.fs_model.specs.declared.call.Call.TheVariants.{Truncate, Ftruncate, Write, Chmod, Chown, SetAcl}
@@ -21,26 +19,23 @@ use Rattle.fs_cred.specs.Ownership.{allowed_if, may_own, owns_or_may_chown}
 use Rattle.fs_model.specs.declared.call.AclType.{AclType}
 use Rattle.fs_model.specs.Limits.{write_limit}
 use Rattle.fs_model.specs.Demands.{allowed_by}
-use Rattle.fs_model.specs.AttributeCalls.{chmod_row, chown_row, set_acl_row, moded, owned, with_set_acl}
-use Rattle.fs_model.proofs.StepsDemands.{demands_met}
+use Rattle.fs_model.specs.AttributeCalls.{moded, owned, with_set_acl}
 use Rattle.fs_model.proofs.VeiledDemands.{write_offset-veil}
 use Rattle.fs_model.proofs.ConfinedReads.{offset_less}
 use Rattle.fs_model.specs.Nodes.{accessed, Node, Body, File, Dir, Link, bytes_in, with_bytes}
 use Rattle.fs_model.specs.Trees.{Tree, with_node}
 use Rattle.fs_model.specs.Processes.{Process, the_descriptor, with_offset}
 use Rattle.fs_model.specs.Births.{the_node}
-use Rattle.fs_model.specs.States.{State}
-use Rattle.fs_model.specs.Alike.{may_read, sees_into, node_seen, tree_seen, seen_by, blotted}
+use Rattle.fs_model.specs.Alike.{may_read, sees_into, node_seen, tree_seen, blotted}
 use Rattle.fs_model.specs.Confinement.{IsConfined}
 use Rattle.fs_model.specs.Rows.{row_of}
 use Rattle.fs_layout.specs.Bytes.{resized, overwritten}
 use Rattle.fs_model.specs.DescriptorCalls.{resized_node, written, write_offset}
-use Rattle.fs_model.specs.Scenes.{Row, found_ino, node_found}
-use Rattle.fs_model.specs.Steps.{scene_of}
+use Rattle.fs_model.specs.Scenes.{Scene, found_ino, node_found}
 use Rattle.fs_model.proofs.StepsBodies.{length-resized, length-overwritten_all}
 use Rattle.fs_model.proofs.Veils.{veiled}
 use Rattle.fs_model.proofs.SeenTrees.{sees-veiled, the_node-seen, with_node-seen, tree_seen-less, SeesNoMore, sees_no_more}
-use Rattle.fs_model.proofs.ConfinedSteps.{Confines}
+use Rattle.fs_model.proofs.ConfinedSteps.{seen_scene, Confines}
 use Rattle.fs_model.proofs.ConfinedLooks.{by_veil}
 
 -- a node set in what the process sees, and in the tree
@@ -92,7 +87,9 @@ even_resized size bytes = length-resized (replicate (length bytes) 0) size ∙ s
 
 pub ftruncate_confined : (fd size : ℕ) → Confines (Ftruncate fd size)
 unfolding row_of
-ftruncate_confined fd size u pid p new free is runs here confined fits asked met fresh =
+ftruncate_confined fd size c new is confined asked met =
+    let u = c.state in
+    let p = c.process in
     let n = (the_descriptor p fd).ino in
     let x = the_node u.tree n in
     record {
@@ -107,17 +104,17 @@ ftruncate_confined fd size u pid p new free is runs here confined fits asked met
 
 pub truncate_confined : (path : List ℕ) (size : ℕ) → Confines (Truncate path size)
 unfolding row_of
-truncate_confined path size u pid p new free is runs here confined fits asked met fresh =
-    let row = row_of (Truncate path size) in
-    let n = found_ino (scene_of u p row).first in
+truncate_confined path size c new is confined asked met =
+    let u = c.state in
+    let p = c.process in
+    let n = found_ino c.first in
     let x = the_node u.tree n in
     record {
       process = refl;
       reply = refl;
-      moved = ap (λ k. if u.room.keeps_times then (k, Modified) ∷ [] else []) (by_veil (λ c. found_ino c.first) (λ c. refl) u p row);
+      moved = refl;
       tree =
-          ap (λ m. tree_seen p (with_node (tree_seen p u.tree) m (resized_node size (the_node (tree_seen p u.tree) m)))) (by_veil (λ c. found_ino c.first) (λ c. refl) u p row)
-          ∙ ap (λ y. tree_seen p (with_node (tree_seen p u.tree) n (resized_node size y))) (the_node-seen p u.tree n)
+          ap (λ y. tree_seen p (with_node (tree_seen p u.tree) n (resized_node size y))) (the_node-seen p u.tree n)
           ∙ rewritten_seen p p u.tree n (resized_node size (node_seen p n x)) (resized_node size x) (sees_no_more p p (λ n node e. e) u.tree)
           (byted_seen (λ bytes. resized bytes size) (even_resized size) p p n x (λ e. e));
     }
@@ -135,19 +132,20 @@ even_overwritten offset new bytes =
 
 pub write_confined : (fd : ℕ) (bytes : List ℕ) → Confines (Write fd bytes)
 unfolding row_of
-write_confined fd [] u pid p new free is runs here confined fits asked met fresh = record {
+write_confined fd [] c new is confined asked met = record {
   process = refl;
   reply = refl;
   moved = refl;
-  tree = tree_seen-less p p u.tree (sees_no_more p p (λ n node e. e) u.tree);
+  tree = tree_seen-less c.process c.process c.state.tree (sees_no_more c.process c.process (λ n node e. e) c.state.tree);
 }
-write_confined fd (b ∷ bs) u pid p new free is runs here confined fits asked met fresh =
+write_confined fd (b ∷ bs) c new is confined asked met =
+    let u = c.state in
+    let p = c.process in
     let bytes = b ∷ bs in
-    let row = row_of (Write fd bytes) in
     let n = (the_descriptor p fd).ino in
     let x = the_node u.tree n in
-    let offset = write_offset (scene_of u p row) fd in
-    let same : write_offset (scene_of (seen_by (Some p) u) p row) fd ≡ offset = by_veil (λ c. write_offset c fd) (λ c. write_offset-veil c fd) u p row in
+    let offset = write_offset c fd in
+    let same : write_offset (seen_scene c) fd ≡ offset = by_veil (λ c. write_offset c fd) (λ c. write_offset-veil c fd) c in
     let limit = u.room.file_limit in
     let text = take (min (length bytes) (min write_limit (limit - offset))) bytes in
     let q = with_offset p fd (offset + min (length bytes) (min write_limit (limit - offset))) in
@@ -197,36 +195,43 @@ may_chown_sees p n x walk step confined met =
     or_first false true lacks h = absurd cc
     or_first false false lacks h = h
 
-owned_tree : (u : State) (p : Process) (row : Row) (f : Node → Node)
-    → sees_into p (found_ino (scene_of u p row).first) (the_node u.tree (found_ino (scene_of u p row).first)) ≡ true
-    → tree_seen p (with_node (tree_seen p u.tree) (found_ino (scene_of (seen_by (Some p) u) p row).first)
-    (f (the_node (tree_seen p u.tree) (found_ino (scene_of (seen_by (Some p) u) p row).first))))
-    ≡ tree_seen p (with_node u.tree (found_ino (scene_of u p row).first) (f (the_node u.tree (found_ino (scene_of u p row).first))))
-owned_tree u p row f sees =
-    let n = found_ino (scene_of u p row).first in
-    let x = the_node u.tree n in
-    let same : the_node (tree_seen p u.tree) n ≡ x = the_node-seen p u.tree n ∙ ap (λ b. cond b x (veiled x)) sees in
-    ap (λ m. tree_seen p (with_node (tree_seen p u.tree) m (f (the_node (tree_seen p u.tree) m)))) (by_veil (λ c. found_ino c.first) (λ c. refl) u p row)
-    ∙ ap (λ y. tree_seen p (with_node (tree_seen p u.tree) n (f y))) same
-    ∙ rewritten_seen p p u.tree n (f x) (f x) (sees_no_more p p (λ n node e. e) u.tree) refl
+owned_tree : (c : Scene) (f : Node → Node) → sees_into c.process (found_ino c.first) (node_found c c.first) ≡ true
+    → tree_seen c.process (with_node (tree_seen c.process c.state.tree) (found_ino c.first) (f (the_node (tree_seen c.process c.state.tree) (found_ino c.first))))
+    ≡ tree_seen c.process (with_node c.state.tree (found_ino c.first) (f (node_found c c.first)))
+owned_tree c f sees =
+    let t = c.state.tree in
+    let p = c.process in
+    let n = found_ino c.first in
+    let x = node_found c c.first in
+    let same : the_node (tree_seen p t) n ≡ x = the_node-seen p t n ∙ ap (λ b. cond b x (veiled x)) sees in
+    ap (λ y. tree_seen p (with_node (tree_seen p t) n (f y))) same
+    ∙ rewritten_seen p p t n (f x) (f x) (sees_no_more p p (λ n node e. e) t) refl
 
 pub chmod_confined : (path : List ℕ) (mode : ℕ) → Confines (Chmod path mode)
 unfolding row_of
-chmod_confined path mode u pid p new free is runs here confined fits asked met fresh =
-    let row = chmod_row path mode in
-    let asks = demands_met u p row met in
-    record { process = refl; reply = refl; moved = ap (λ k. if u.room.keeps_times then (k, Changed) ∷ [] else []) (by_veil (λ c. found_ino c.first) (λ c. refl) u p row); tree = owned_tree u p row (moded p.cred mode) (may_own_sees p _ (node_found (scene_of u p row) (scene_of u p row).first) 1 (scene_of u p row).first.step confined asks.1.0) }
+chmod_confined path mode c new is confined asked met = record {
+  process = refl;
+  reply = refl;
+  moved = refl;
+  tree = owned_tree c (moded c.process.cred mode) (may_own_sees c.process _ (node_found c c.first) 1 c.first.step confined met.1.0);
+}
 
 pub chown_confined : (path : List ℕ) (owner group : Option ℕ) → Confines (Chown path owner group)
 unfolding row_of
-chown_confined path owner group u pid p new free is runs here confined fits asked met fresh =
-    let row = chown_row path owner group in
-    let asks = demands_met u p row met in
-    record { process = refl; reply = refl; moved = ap (λ k. if u.room.keeps_times then (k, Changed) ∷ [] else []) (by_veil (λ c. found_ino c.first) (λ c. refl) u p row); tree = owned_tree u p row (owned owner group) (may_chown_sees p _ (node_found (scene_of u p row) (scene_of u p row).first) 1 (scene_of u p row).first.step confined asks.1.0) }
+chown_confined path owner group c new is confined asked met = record {
+  process = refl;
+  reply = refl;
+  moved = refl;
+  tree = owned_tree c (owned owner group) (may_chown_sees c.process _ (node_found c c.first) 1 c.first.step confined met.1.0);
+}
 
 pub set_acl_confined : (path : List ℕ) (which : AclType) (acl : Option AccessList) → Confines (SetAcl path which acl)
 unfolding row_of
-set_acl_confined path which acl u pid p new free is runs here confined fits asked met fresh =
-    let row = set_acl_row path which acl in
-    let asks = demands_met u p row met in
-    record { process = refl; reply = refl; moved = ap (λ k. if u.room.keeps_times then (k, Changed) ∷ [] else []) (by_veil (λ c. found_ino c.first) (λ c. refl) u p row); tree = owned_tree u p row (λ node. record node { body = with_set_acl which acl node.body }) (may_own_sees p _ (node_found (scene_of u p row) (scene_of u p row).first) 1 (scene_of u p row).first.step confined asks.1.0) }
+set_acl_confined path which acl c new is confined asked met = record {
+  process = refl;
+  reply = refl;
+  moved = refl;
+  tree =
+      owned_tree c (λ node. record node { body = with_set_acl which acl node.body })
+      (may_own_sees c.process _ (node_found c c.first) 1 c.first.step confined met.1.0);
+}

@@ -8,7 +8,7 @@ use Rattle.fs_cred.specs.declared.refusal.Refusal.TheVariants.{Failed}
 use Rattle.fs_layout.specs.Maps.{get}
 use Rattle.fs_model.specs.declared.call.Call.{Call}
 use Rattle.fs_model.specs.declared.event.Event.{Event}
-use Rattle.fs_model.specs.declared.event.Event.TheVariants.{Spawn, Exit, Call as Calls, Enter, Stamp, Clock, Fsync, Sync, Statfs, Arm, Restart}
+use Rattle.fs_model.specs.declared.event.Event.TheVariants.{Spawn, Exit, Call as Calls, CallAt, Enter, Stamp, Clock, Fsync, Sync, Statfs, Arm, Restart}
 use Rattle.fs_model.specs.declared.reply.Reply.{Reply}
 use Rattle.fs_model.specs.declared.reply.Reply.TheVariants.{Refused}
 use Rattle.fs_model.specs.Processes.{Process}
@@ -19,7 +19,7 @@ use Rattle.fs_model.specs.Rows.{row_of}
 use Rattle.fs_model.specs.Steps.{Choice, after, after_call, firm_refusal, demand_of, scene_of, is_of_machine}
 use Rattle.fs_model.specs.Confinement.{IsConfined, StepBy, early, late, done, RunBy, IsOf, AreOf, AnswerAlike, Confinement, GoneIsRefused}
 use Rattle.fs_model.proofs.StepsKeep.{steps_keep}
-use Rattle.fs_model.proofs.ConfinedSteps.{effect_in, here_after, here_alike}
+use Rattle.fs_model.proofs.ConfinedSteps.{effect_of, here_after, here_alike}
 use Rattle.fs_model.proofs.EachCall.{each_call}
 use Rattle.fs_model.proofs.ConfinedEvents.{gone_by, confined}
 use Rattle.fs_model.proofs.ConfinedStepsOf.{steps_by}
@@ -30,10 +30,10 @@ module _ (pid : ℕ) (p q : Process) (s : State) (here : get nat_cmp s.processes
   called_cred : (call : Call) (choice : Choice)
       → get nat_cmp (after_call s pid (row_of call) choice.ino (get nat_cmp s.processes pid)).processes pid ≡ Some q → q.cred ≡ p.cred
   called_cred call choice there =
-      let effect = effect_in pid p (row_of call) choice.ino choice.free s in
+      let effect = effect_of p (row_of call) choice.ino s in
       let now : get nat_cmp (after_call s pid (row_of call) choice.ino (Some p)).processes pid ≡ Some q =
       ap (λ o. get nat_cmp (after_call s pid (row_of call) choice.ino o).processes pid) (sym here) ∙ there in
-      let same : Some effect.process ≡ Some q = sym (here_after pid p (row_of call) choice.ino choice.free s.processes effect.process) ∙ now in
+      let same : Some effect.process ≡ Some q = sym (here_after s.processes pid effect.process) ∙ now in
       let is : effect.process ≡ q = cc in
       ap (λ x. x.cred) (sym is) ∙ (each_call call).keeps (scene_of s p (row_of call)) choice.ino
 
@@ -47,6 +47,7 @@ module _ (pid : ℕ) (p q : Process) (s : State) (here : get nat_cmp s.processes
   acted_cred is (Fsync by fd) choice of there = same_cred there
   acted_cred is (Exit by) choice of there = absurd (let none = gone_by s.processes by pid is.pids of in let both : None ≡ Some q = sym none ∙ there in cc)
   acted_cred is (Spawn cred) choice of there = absurd of
+  acted_cred is (CallAt v call) choice of there = absurd of
   acted_cred is (Enter by directory second) choice of there = absurd of
   acted_cred is (Stamp n atime mtime ctime) choice of there = absurd of
   acted_cred is (Clock time) choice of there = absurd of
@@ -103,6 +104,7 @@ machine_of pid (Calls by call) of = refl
 machine_of pid (Fsync by fd) of = refl
 machine_of pid (Exit by) of = refl
 machine_of pid (Spawn cred) of = absurd of
+machine_of pid (CallAt v call) of = absurd of
 machine_of pid (Enter by directory second) of = absurd of
 machine_of pid (Stamp n atime mtime ctime) of = absurd of
 machine_of pid (Clock time) of = absurd of

@@ -3,9 +3,8 @@
 --     each_call        each call's case
 use Rattle.std.specs.Prelude.{◌≡◌, ℕ, ◌+◌, nat_le, Bool, true, false, not, ◌&&◌, cond, List, [], ◌∷◌, Option, None, Some, take, if◌then◌else◌, is_some, length, ◌⊎◌, unwrap_or}
 use Rattle.std.proofs.Common.{refl, ap, sym, ◌∙◌, inl, inr}
-use Rattle.std.specs.Ordering.{nat_cmp}
 use Rattle.posix_acl.specs.declared.entry.Perms.{Perms}
-use Rattle.fs_cred.specs.declared.errno.Errno.TheVariants.{EPERM, ENOENT, EBADF, EBUSY, ENOTDIR, EISDIR, EINVAL, EFBIG, ENOSPC, EMLINK, ENAMETOOLONG, ENOTEMPTY}
+use Rattle.fs_cred.specs.declared.errno.Errno.TheVariants.{EPERM, ENOENT, EBADF, EBUSY, ENOTDIR, EISDIR, EINVAL, EFBIG, ENOSPC, ENAMETOOLONG, ENOTEMPTY}
 use Rattle.fs_cred.specs.declared.node.Node.{Node as AccessNode}
 use Rattle.fs_cred.specs.declared.refusal.Need.TheVariants.{Own, Chown as ChownNeed, Chgrp}
 use Rattle.fs_cred.specs.Credentials.{Credential}
@@ -14,7 +13,6 @@ use Rattle.fs_model.specs.declared.walk.Form.TheVariants.{Follow, NoFollow, Pare
 use Rattle.fs_model.specs.declared.call.Flags.{Flags}
 use Rattle.fs_model.specs.declared.call.Call.{Call}
 use Rattle.fs_model.specs.declared.call.Call.TheVariants.{Open, Read, Write, Lseek, Close, Fstat, Stat, Lstat, Access, Truncate, Ftruncate, Chmod, Chown, GetAcl, SetAcl, Readdir, Mkdir, Rmdir, Link as LinkCall, Symlink, Readlink, Unlink, Rename, Chdir, Umask}
-use Rattle.fs_layout.specs.Maps.{get}
 use Rattle.fs_model.specs.Nodes.{Node, with_bytes}
 use Rattle.fs_model.specs.Processes.{the_descriptor, with_offset, least_unused}
 use Rattle.fs_model.specs.Demands.{refuse, perms}
@@ -33,7 +31,7 @@ use Rattle.fs_model.specs.TreeChanges.{Rewrite, Same, Make}
 use Rattle.fs_model.specs.Stops.{is_io_error}
 use Rattle.fs_model.specs.Births.{born_file, born_directory, born_link}
 use Rattle.fs_model.specs.Ranges.{IsCall}
-use Rattle.fs_model.proofs.StepsFit.{IsScene}
+use Rattle.fs_model.proofs.StepsFit.{IsScene, IsCaller}
 use Rattle.fs_model.proofs.StepsFound.{IsWalked, IsNameAt}
 use Rattle.fs_model.proofs.StepsOfDescriptors.{read_fits, write_fits, lseek_fits, close_fits, ftruncate_fits}
 use Rattle.fs_model.proofs.StepsOfMaking.{is_new_if, mkdir_fits, symlink_fits, target_is, link_fits}
@@ -45,7 +43,7 @@ use Rattle.fs_model.proofs.ConfinedReads.{lseek_confined, close_confined, read_c
 use Rattle.fs_model.proofs.ConfinedRewrites.{ftruncate_confined, truncate_confined, write_confined, chmod_confined, chown_confined, set_acl_confined}
 use Rattle.fs_model.proofs.ConfinedNames.{unlink_confined, rmdir_confined, link_confined, rename_confined, mkdir_confined, symlink_confined}
 use Rattle.fs_model.proofs.ConfinedOpens.{open_confined}
-use Rattle.fs_model.proofs.NoIoDemands.{RowSpares, refused, only, answered, searched, by_fd, of_path, of_paths, there, fresh, at_end, at_dir, sticky, own, space, open_spares, rename_spares}
+use Rattle.fs_model.proofs.NoIoDemands.{RowSpares, refused, counted, only, answered, searched, by_fd, of_path, of_paths, there, fresh, at_end, at_dir, sticky, own, space, open_spares, rename_spares}
 use Rattle.fs_model.proofs.StepsLeaves.{AreBytes, Leaves, fits_leave, answer_leaves, open_leaves, renames_leave, IsUnrefused}
 use Rattle.fs_model.proofs.VeiledDemands.{access_asks, chdir_asks, chmod_asks, chown_asks, link_asks, lseek_asks, mkdir_asks, open_asks, read_asks, readdir_asks, readlink_asks, rename_asks, rmdir_asks, set_acl_asks, symlink_asks, truncate_asks, unlink_asks, write_asks}
 use Rattle.fs_model.proofs.ConfinedSteps.{Confines}
@@ -85,8 +83,8 @@ pub record IsLawful (call : Call) : Type 0 where
   -- what it asks depends on no byte of a file
   pub asks : (c : Scene) → (row_of call).demands (veiled_scene c) ≡ (row_of call).demands c
   -- what it leaves may be left
-  pub leaves : (c : Scene) (is : IsScene c) (pid : ℕ) (here : get nat_cmp c.state.processes pid ≡ Some c.process) (new : ℕ) → IsUnrefused c call
-      → HasNewNumber c.state ((row_of call).effect c new).change → Leaves c is pid here ((row_of call).effect c new)
+  pub leaves : (c : Scene) (is : IsScene c) (caller : Option ℕ) (here : IsCaller c.state.processes caller c.process) (new : ℕ) → IsUnrefused c call
+      → HasNewNumber c.state ((row_of call).effect c new).change → Leaves c is caller here ((row_of call).effect c new)
   -- the process keeps its credential
   pub keeps : (c : Scene) (new : ℕ) → ((row_of call).effect c new).process.cred ≡ c.process.cred
   -- what it takes the number of a new node for
@@ -129,7 +127,7 @@ each_call (Open path flags mode) = record {
   spares = open_spares path flags mode;
   replies = λ c new. refl;
   asks = λ c. open_asks c flags;
-  leaves = λ c is pid here new met fresh. open_leaves c is pid here path flags mode new met.early met.demands met.first fresh;
+  leaves = λ c is who here new met fresh. open_leaves c is who here path flags mode new met.early met.demands met.first fresh;
   keeps = λ c new. refl;
   uses = λ c met. open_uses c flags mode (open_form flags) met.first c.first.ino refl;
   confines = open_confined path flags mode;
@@ -139,7 +137,7 @@ each_call (Read fd len) = record {
   spares = by_fd (is_bad_to_read fd) (read_demands fd) (read_effect fd len) (λ p. refused EBADF _ refl) (λ s. (refused EISDIR _ refl, tt));
   replies = λ c new. refl;
   asks = λ c. read_asks c fd;
-  leaves = λ c is pid here new met fresh. fits_leave c is pid here _ (read_fits c is fd len met.early);
+  leaves = λ c is who here new met fresh. fits_leave c is who here _ (read_fits c is fd len met.early);
   keeps = λ c new. refl;
   uses = λ c met. inl (λ n m. refl);
   confines = read_confined fd len;
@@ -149,7 +147,7 @@ each_call (Write fd bytes) = record {
   spares = by_fd (is_bad_to_write fd) (write_demands fd bytes) (write_effect fd bytes) (λ p. refused EBADF _ refl) (λ s. only (not (is_empty bytes)) (refuse EFBIG (nat_le s.state.room.file_limit (write_offset s fd)) ∷ no_blocks_for (length bytes) s ∷ []) (refused EFBIG _ refl, (refused ENOSPC _ refl, tt)));
   replies = λ c new. write_spares fd bytes c;
   asks = λ c. write_asks c fd bytes;
-  leaves = λ c is pid here new met fresh. fits_leave c is pid here _ (write_fits c is fd bytes met.fits.1 met.early met.demands);
+  leaves = λ c is who here new met fresh. fits_leave c is who here _ (write_fits c is fd bytes met.fits.1 met.early met.demands);
   keeps = write_keeps fd bytes;
   uses = λ c met. inl (write_uses fd bytes c);
   confines = write_confined fd bytes;
@@ -159,7 +157,7 @@ each_call (Lseek fd whence by) = record {
   spares = by_fd (is_bad fd) (lseek_demands fd whence by) (lseek_effect fd whence by) (λ p. refused EBADF _ refl) (λ s. (refused EISDIR _ refl, (refused EINVAL _ refl, tt)));
   replies = λ c new. refl;
   asks = λ c. lseek_asks c fd whence by;
-  leaves = λ c is pid here new met fresh. fits_leave c is pid here _ (lseek_fits c is fd whence by met.early);
+  leaves = λ c is who here new met fresh. fits_leave c is who here _ (lseek_fits c is fd whence by met.early);
   keeps = λ c new. refl;
   uses = λ c met. inl (λ n m. refl);
   confines = lseek_confined fd whence by;
@@ -169,7 +167,7 @@ each_call (Close fd) = record {
   spares = by_fd (is_bad fd) nothing_asked (close_effect fd) (λ p. refused EBADF _ refl) (λ s. tt);
   replies = λ c new. refl;
   asks = λ c. refl;
-  leaves = λ c is pid here new met fresh. fits_leave c is pid here _ (close_fits c is fd);
+  leaves = λ c is who here new met fresh. fits_leave c is who here _ (close_fits c is fd);
   keeps = λ c new. refl;
   uses = λ c met. inl (λ n m. refl);
   confines = close_confined fd;
@@ -179,7 +177,7 @@ each_call (Fstat fd) = record {
   spares = by_fd (is_bad fd) nothing_asked (fstat_effect fd) (λ p. refused EBADF _ refl) (λ s. tt);
   replies = λ c new. refl;
   asks = λ c. refl;
-  leaves = λ c is pid here new met fresh. answer_leaves c is pid here;
+  leaves = λ c is who here new met fresh. answer_leaves c is who here;
   keeps = λ c new. refl;
   uses = λ c met. inl (λ n m. refl);
   confines = fstat_confined fd;
@@ -189,7 +187,7 @@ each_call (Stat path) = record {
   spares = of_path [] Follow path stat_demands stat_effect tt (λ s. (there s.first, tt));
   replies = λ c new. refl;
   asks = λ c. refl;
-  leaves = λ c is pid here new met fresh. answer_leaves c is pid here;
+  leaves = λ c is who here new met fresh. answer_leaves c is who here;
   keeps = λ c new. refl;
   uses = λ c met. inl (λ n m. refl);
   confines = stat_confined path;
@@ -199,7 +197,7 @@ each_call (Lstat path) = record {
   spares = of_path [] NoFollow path stat_demands stat_effect tt (λ s. (there s.first, tt));
   replies = λ c new. refl;
   asks = λ c. refl;
-  leaves = λ c is pid here new met fresh. answer_leaves c is pid here;
+  leaves = λ c is who here new met fresh. answer_leaves c is who here;
   keeps = λ c new. refl;
   uses = λ c met. inl (λ n m. refl);
   confines = lstat_confined path;
@@ -209,7 +207,7 @@ each_call (Access path want) = record {
   spares = of_path [] Follow path (access_demands want) (access_effect want) tt (λ s. (there s.first, (at_end s 1 want, tt)));
   replies = λ c new. granted_spares _ want _;
   asks = λ c. access_asks c want;
-  leaves = λ c is pid here new met fresh. answer_leaves c is pid here;
+  leaves = λ c is who here new met fresh. answer_leaves c is who here;
   keeps = λ c new. refl;
   uses = λ c met. inl (λ n m. refl);
   confines = access_confined path want;
@@ -219,7 +217,7 @@ each_call (Truncate path size) = record {
   spares = of_path [] Follow path (truncate_demands size) (truncate_effect size) tt (λ s. (there s.first, (refused EISDIR _ refl, (at_end s 1 (perms false true false), (refused EFBIG _ refl, tt)))));
   replies = λ c new. refl;
   asks = λ c. truncate_asks c size;
-  leaves = λ c is pid here new met fresh. fits_leave c is pid here _ (truncate_fits c is size new met.demands);
+  leaves = λ c is who here new met fresh. fits_leave c is who here _ (truncate_fits c is size new met.demands);
   keeps = λ c new. refl;
   uses = λ c met. inl (λ n m. refl);
   confines = truncate_confined path size;
@@ -229,7 +227,7 @@ each_call (Ftruncate fd size) = record {
   spares = by_fd (is_bad_to_write fd) (ftruncate_demands size) (ftruncate_effect fd size) (λ p. refused EBADF _ refl) (λ s. (refused EFBIG _ refl, tt));
   replies = λ c new. refl;
   asks = λ c. refl;
-  leaves = λ c is pid here new met fresh. fits_leave c is pid here _ (ftruncate_fits c is fd size met.early met.demands);
+  leaves = λ c is who here new met fresh. fits_leave c is who here _ (ftruncate_fits c is fd size met.early met.demands);
   keeps = λ c new. refl;
   uses = λ c met. inl (λ n m. refl);
   confines = ftruncate_confined fd size;
@@ -239,7 +237,7 @@ each_call (Chmod path mode) = record {
   spares = of_path (check_of_mode mode ∷ []) Follow path chmod_demands (chmod_effect mode) (refused EINVAL _ refl, tt) (λ s. (there s.first, (own s, tt)));
   replies = λ c new. refl;
   asks = λ c. chmod_asks c;
-  leaves = λ c is pid here new met fresh. fits_leave c is pid here _ (chmod_fits c is mode new met.demands);
+  leaves = λ c is who here new met fresh. fits_leave c is who here _ (chmod_fits c is mode new met.demands);
   keeps = λ c new. refl;
   uses = λ c met. inl (λ n m. refl);
   confines = chmod_confined path mode;
@@ -249,7 +247,7 @@ each_call (Chown path owner group) = record {
   spares = of_path [] Follow path (chown_demands owner group) (chown_effect owner group) tt (λ s. (there s.first, (answered 1 s.first.step Own _, (answered 1 s.first.step ChownNeed _, (answered 1 s.first.step Chgrp _, tt)))));
   replies = λ c new. refl;
   asks = λ c. chown_asks c owner group;
-  leaves = λ c is pid here new met fresh. fits_leave c is pid here _ (chown_fits c is owner group new met.fits.1 met.fits.2 met.demands);
+  leaves = λ c is who here new met fresh. fits_leave c is who here _ (chown_fits c is owner group new met.fits.1 met.fits.2 met.demands);
   keeps = λ c new. refl;
   uses = λ c met. inl (λ n m. refl);
   confines = chown_confined path owner group;
@@ -259,7 +257,7 @@ each_call (GetAcl path which) = record {
   spares = of_path [] Follow path stat_demands (get_acl_effect which) tt (λ s. (there s.first, tt));
   replies = λ c new. refl;
   asks = λ c. refl;
-  leaves = λ c is pid here new met fresh. answer_leaves c is pid here;
+  leaves = λ c is who here new met fresh. answer_leaves c is who here;
   keeps = λ c new. refl;
   uses = λ c met. inl (λ n m. refl);
   confines = get_acl_confined path which;
@@ -269,7 +267,7 @@ each_call (SetAcl path which acl) = record {
   spares = of_path (set_acl_arguments which acl) Follow path (set_acl_demands which acl) (set_acl_effect which acl) (refused EINVAL _ refl, tt) (λ s. (there s.first, (own s, (refused ENOTDIR _ refl, only (needs_sector which acl) (no_blocks s ∷ []) (refused ENOSPC _ refl, tt)))));
   replies = λ c new. refl;
   asks = λ c. set_acl_asks c which acl;
-  leaves = λ c is pid here new met fresh. fits_leave c is pid here _ (set_acl_fits c is which acl new met.fits.1 met.demands);
+  leaves = λ c is who here new met fresh. fits_leave c is who here _ (set_acl_fits c is which acl new met.fits.1 met.demands);
   keeps = λ c new. refl;
   uses = λ c met. inl (λ n m. refl);
   confines = set_acl_confined path which acl;
@@ -279,7 +277,7 @@ each_call (Readdir fd) = record {
   spares = by_fd (is_bad_to_read fd) (readdir_demands fd) (readdir_effect fd) (λ p. refused EBADF _ refl) (λ s. (refused ENOTDIR _ refl, tt));
   replies = λ c new. refl;
   asks = λ c. readdir_asks c fd;
-  leaves = λ c is pid here new met fresh. answer_leaves c is pid here;
+  leaves = λ c is who here new met fresh. answer_leaves c is who here;
   keeps = λ c new. refl;
   uses = λ c met. inl (λ n m. refl);
   confines = readdir_confined fd;
@@ -289,7 +287,7 @@ each_call (Mkdir path mode) = record {
   spares = of_path (check_of_mode mode ∷ []) Parent path mkdir_demands (mkdir_effect mode) (refused EINVAL _ refl, tt) (λ s. (fresh s.first, (at_dir s s.first 1, space s)));
   replies = λ c new. refl;
   asks = λ c. mkdir_asks c;
-  leaves = λ c is pid here new met fresh. fits_leave c is pid here _ (mkdir_fits c is (met.first.new (is_new_if c.first met.demands.0)) met.demands.1.1.1.1.0 new fresh.0 fresh.1 fresh.2 mode);
+  leaves = λ c is who here new met fresh. fits_leave c is who here _ (mkdir_fits c is (met.first.new (is_new_if c.first met.demands.0)) met.demands.1.1.1.1.0 new fresh.0 fresh.1 fresh.2 mode);
   keeps = λ c new. refl;
   uses = λ c met. inr (met.first.new (is_new_if c.first met.demands.0), (born_directory c.process.cred c.process.umask mode (dir_node c c.first), λ n. refl));
   confines = mkdir_confined path mode;
@@ -299,17 +297,17 @@ each_call (Rmdir path) = record {
   spares = of_path [] Parent path rmdir_demands takes_name tt (λ s. (refused EBUSY _ refl, (refused EINVAL _ refl, (refused ENOTEMPTY _ refl, (there s.first, (refused ENOTDIR _ refl, (at_dir s s.first 1, (sticky s s.first 1, (refused ENOTDIR _ refl, (refused EBUSY _ refl, (refused ENOTEMPTY _ refl, tt)))))))))));
   replies = λ c new. refl;
   asks = λ c. rmdir_asks c;
-  leaves = λ c is pid here new met fresh. rmdir_leaves c is pid here met.first met.demands;
+  leaves = λ c is who here new met fresh. rmdir_leaves c is who here met.first met.demands;
   keeps = λ c new. refl;
   uses = λ c met. inl (λ n m. refl);
   confines = rmdir_confined path;
 }
 each_call (LinkCall old to) = record {
   paths = λ is. (is.0, (is.1, tt));
-  spares = of_paths old to link_demands link_effect (λ s. (refused EPERM _ refl, (there s.first, (refused ENOTDIR _ refl, (refused EPERM _ refl, (fresh s.second, (refused ENOENT _ refl, (at_dir s s.second 2, (refused EMLINK _ refl, (refused ENOSPC _ refl, (refused ENOSPC _ refl, tt)))))))))));
+  spares = of_paths old to link_demands link_effect (λ s. (there s.first, (refused ENOTDIR _ refl, (refused EPERM _ refl, (fresh s.second, (refused ENOENT _ refl, (at_dir s s.second 2, (counted s, (refused ENOSPC _ refl, (refused ENOSPC _ refl, tt))))))))));
   replies = λ c new. refl;
   asks = λ c. link_asks c;
-  leaves = λ c is pid here new met fresh. fits_leave c is pid here _ (link_fits c is (met.second.new (is_new_if c.second met.demands.1.1.1.1.0)) met.demands);
+  leaves = λ c is who here new met fresh. fits_leave c is who here _ (link_fits c is (met.second.new (is_new_if c.second met.demands.1.1.1.0)) met.demands);
   keeps = λ c new. refl;
   uses = λ c met. inl (λ n m. refl);
   confines = link_confined old to;
@@ -319,7 +317,7 @@ each_call (Symlink target path) = record {
   spares = of_path (symlink_arguments target) Parent path symlink_demands (symlink_effect target) (refused ENOENT _ refl, (refused EINVAL _ refl, (refused ENAMETOOLONG _ refl, tt))) (λ s. (fresh s.first, (refused ENOENT _ refl, (at_dir s s.first 1, space s))));
   replies = λ c new. refl;
   asks = λ c. symlink_asks c;
-  leaves = λ c is pid here new met fresh. fits_leave c is pid here _ (symlink_fits c is (met.first.new (is_new_if c.first met.demands.0)) met.demands.1.1.1.1.1.0 new fresh.0 fresh.1 fresh.2 target (target_is target met.fits.0 met.arguments));
+  leaves = λ c is who here new met fresh. fits_leave c is who here _ (symlink_fits c is (met.first.new (is_new_if c.first met.demands.0)) met.demands.1.1.1.1.1.0 new fresh.0 fresh.1 fresh.2 target (target_is target met.fits.0 met.arguments));
   keeps = λ c new. refl;
   uses = λ c met. inr (met.first.new (is_new_if c.first met.demands.0), (born_link c.process.cred target (dir_node c c.first), λ n. refl));
   confines = symlink_confined target path;
@@ -329,7 +327,7 @@ each_call (Readlink path) = record {
   spares = of_path [] NoFollow path readlink_demands readlink_effect tt (λ s. (there s.first, (refused EINVAL _ refl, tt)));
   replies = λ c new. refl;
   asks = λ c. readlink_asks c;
-  leaves = λ c is pid here new met fresh. answer_leaves c is pid here;
+  leaves = λ c is who here new met fresh. answer_leaves c is who here;
   keeps = λ c new. refl;
   uses = λ c met. inl (λ n m. refl);
   confines = readlink_confined path;
@@ -339,7 +337,7 @@ each_call (Unlink path) = record {
   spares = of_path [] Parent path unlink_demands takes_name tt (λ s. (refused EISDIR _ refl, (there s.first, (refused ENOTDIR _ refl, (at_dir s s.first 1, (sticky s s.first 1, (refused EISDIR _ refl, tt)))))));
   replies = λ c new. refl;
   asks = λ c. unlink_asks c;
-  leaves = λ c is pid here new met fresh. unlink_leaves c is pid here met.first met.demands;
+  leaves = λ c is who here new met fresh. unlink_leaves c is who here met.first met.demands;
   keeps = λ c new. refl;
   uses = λ c met. inl (λ n m. refl);
   confines = unlink_confined path;
@@ -349,7 +347,7 @@ each_call (Rename old to) = record {
   spares = of_paths old to rename_demands rename_effect rename_spares;
   replies = λ c new. refl;
   asks = λ c. rename_asks c;
-  leaves = λ c is pid here new met fresh. renames_leave c is pid here met.first met.second met.demands;
+  leaves = λ c is who here new met fresh. renames_leave c is who here met.first met.second met.demands;
   keeps = λ c new. refl;
   uses = λ c met. inl (λ n m. refl);
   confines = rename_confined old to;
@@ -359,7 +357,7 @@ each_call (Chdir path) = record {
   spares = of_path [] Follow path chdir_demands chdir_effect tt (λ s. (there s.first, (refused ENOTDIR _ refl, (searched s.process.cred s.state.tree (found_ino s.first) 1 s.first.step, tt))));
   replies = λ c new. refl;
   asks = λ c. chdir_asks c;
-  leaves = λ c is pid here new met fresh. fits_leave c is pid here _ (chdir_fits c is new met.demands);
+  leaves = λ c is who here new met fresh. fits_leave c is who here _ (chdir_fits c is new met.demands);
   keeps = λ c new. refl;
   uses = λ c met. inl (λ n m. refl);
   confines = chdir_confined path;
@@ -369,7 +367,7 @@ each_call (Umask mask) = record {
   spares = record { arguments = tt; early = λ p. tt; demands = λ s. tt };
   replies = λ c new. refl;
   asks = λ c. refl;
-  leaves = λ c is pid here new met fresh. fits_leave c is pid here _ (umask_fits c is mask new);
+  leaves = λ c is who here new met fresh. fits_leave c is who here _ (umask_fits c is mask new);
   keeps = λ c new. refl;
   uses = λ c met. inl (λ n m. refl);
   confines = umask_confined mask;

@@ -59,9 +59,12 @@ module _ (room : Room) (t : Tree) (is : IsTree room t) where
   lookup_reached is_last dir_ino name o =
       looked_up_is Reached room t is_last true dir_ino name o tt tt (λ node e. arrival_reached is_last (named_inode t dir_ino (names_of_body node.body) name))
 
-  pub followed_no_link : (cwd : ℕ) (path : List ℕ) → IsDirectoryAt t cwd → (n : ℕ) → (trail_of room t cwd Follow path).found ≡ Some n → NoLink t n
+  pub followed_from : (cwd : ℕ) (path : List ℕ) → NoLink t (start_of (parts_of path) cwd) → (n : ℕ) → (trail_of room t cwd Follow path).found ≡ Some n → NoLink t n
   unfolding trail_of
-  followed_no_link cwd path d =
+  followed_from cwd path none =
       let parts = parts_of path in
       finds_such room t (NoLink t) start_no_link true (λ is_last dir_ino name at. lookup_reached is_last dir_ino name (node_at t dir_ino)) links_limit
-      (start_of parts cwd) parts.names parts.slash_at_end (start_no_link parts cwd (directory_no_link t cwd d))
+      (start_of parts cwd) parts.names parts.slash_at_end none
+
+  pub followed_no_link : (cwd : ℕ) (path : List ℕ) → IsDirectoryAt t cwd → (n : ℕ) → (trail_of room t cwd Follow path).found ≡ Some n → NoLink t n
+  followed_no_link cwd path d = followed_from cwd path (start_no_link (parts_of path) cwd (directory_no_link t cwd d))

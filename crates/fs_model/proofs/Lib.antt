@@ -10,11 +10,14 @@ pub mod ConfinedRewrites
 pub mod ConfinedRuns
 pub mod ConfinedSteps
 pub mod ConfinedStepsOf
+pub mod ConfinedActors
 pub mod Counting
 pub mod EachCall
+pub mod EachActorCall
 pub mod Findings
 pub mod Finds
 pub mod Followed
+pub mod FollowedActors
 pub mod Frame
 pub mod FreeInodes
 pub mod Kept
@@ -56,8 +59,10 @@ pub mod RulesFromTree
 pub mod RulesLaw
 pub mod RunsOfReads
 pub mod RunsOfWrites
+pub mod SeenScenes
 pub mod SeenTrees
 pub mod Stable
+pub mod SpecialFinds
 pub mod StepsAdding
 pub mod StepsBodies
 pub mod StepsComponents
@@ -78,6 +83,7 @@ pub mod StepsOfOpen
 pub mod StepsOfPaths
 pub mod StepsOfRemoving
 pub mod StepsOfRename
+pub mod StepsOfActors
 pub mod StepsParents
 pub mod StepsProcesses
 pub mod StepsSwept
@@ -87,6 +93,7 @@ pub mod StepsUp
 pub mod Restamps
 pub mod PlacedStamps
 pub mod RowsOfTimes
+pub mod RowsOfActors
 mod StoredStamps
 mod StoredTrees
 pub mod Summaries
@@ -100,4 +107,5 @@ pub mod VeiledRefusals
 pub mod VeiledScenes
 pub mod Veils
 pub mod VersionLimits
+pub mod ActorsAsProcesses
 pub mod WrittenParts

@@ -1,10 +1,10 @@
 -- No demand of a walk refuses with EIO, and what that is of a row.
-use Rattle.std.specs.Prelude.{◌≡◌, ◌≢◌, ℕ, ◌+◌, zero, suc, ◌-◌, Bool, true, false, not, ◌&&◌, ◌||◌, cond, List, [], ◌∷◌, ◌++◌, Option, None, Some, Ok, Err}
+use Rattle.std.specs.Prelude.{◌≡◌, ◌≢◌, ◌==◌, nat_le, ℕ, ◌+◌, zero, suc, ◌-◌, Bool, true, false, not, ◌&&◌, ◌||◌, cond, List, [], ◌∷◌, ◌++◌, Option, None, Some, Ok, Err}
 use Rattle.std.proofs.Common.{refl, ap}
 use Rattle.std.specs.List.{flat_map}
 use Rattle.posix_acl.specs.declared.entry.Perms.{Perms}
 use Rattle.fs_cred.specs.declared.errno.Errno.{Errno}
-use Rattle.fs_cred.specs.declared.errno.Errno.TheVariants.{ENOENT, EIO, EBUSY, EEXIST, ENOTDIR, EISDIR, EINVAL, EMFILE, ENOSPC, ENAMETOOLONG, ENOTEMPTY, ELOOP}
+use Rattle.fs_cred.specs.declared.errno.Errno.TheVariants.{ENOENT, EIO, EBUSY, EEXIST, ENOTDIR, EISDIR, EINVAL, EMFILE, EMLINK, ENOSPC, ENAMETOOLONG, ENOTEMPTY, ELOOP}
 use Rattle.fs_cred.specs.declared.node.Node.{Node as AccessNode}
 use Rattle.fs_cred.specs.declared.refusal.Need.{Need}
 use Rattle.fs_cred.specs.declared.refusal.Need.TheVariants.{Search, Perm, Own, Remove}
@@ -19,7 +19,8 @@ use Rattle.fs_model.specs.declared.walk.Found.{Found}
 use Rattle.fs_model.specs.declared.call.Flags.{Flags}
 use Rattle.fs_model.specs.Limits.{links_limit}
 use Rattle.fs_model.specs.Nodes.{Node, Body, File, Dir, Link, names_of_body}
-use Rattle.fs_model.specs.Trees.{Tree, Room, node_at}
+use Rattle.fs_model.specs.NameCalls.{link_count_demand}
+use Rattle.fs_model.specs.Trees.{Tree, Room, node_at, names_of}
 use Rattle.fs_model.specs.Processes.{Process, cwd_of}
 use Rattle.fs_model.specs.Demands.{Demand, refuse, or_else, first_of, only_if, decided, allowed_by, search_only, write_and_search, perms, failed_with, accessed_at, permission_of, permission_on, search_of, search_on}
 use Rattle.fs_model.specs.Parts.{is_empty, parts_of, start_of, path_checks}
@@ -52,7 +53,7 @@ abbrev pub AllSpare : List Demand → Type 0
 AllSpare [] = Unit {0}
 AllSpare (d ∷ ds) = Spares d × AllSpare ds
 
-either : (d e : Demand) → Spares d → Spares e → Spares (or_else d e)
+pub either : (d e : Demand) → Spares d → Spares e → Spares (or_else d e)
 either None e first second = second
 either (Some r) e first second = first
 
@@ -67,6 +68,12 @@ both (d ∷ ds) es first second = (first.0, both ds es first.1 second)
 pub refused : (e : Errno) (b : Bool) → is_eio e ≡ false → Spares (refuse e b)
 refused e true other = other
 refused e false other = refl
+
+-- of the names of what is to get one more
+pub counted : (s : Scene) → Spares (link_count_demand s.state.room.names_limit (names_of s.state.tree (found_ino s.first)))
+counted s =
+    let names = names_of s.state.tree (found_ino s.first) in
+    either (refuse ENOENT (names == 0)) (refuse EMLINK (nat_le s.state.room.names_limit names)) (refused ENOENT _ refl) (refused EMLINK _ refl)
 
 pub only : (b : Bool) (ds : List Demand) → AllSpare ds → AllSpare (only_if b ds)
 only true ds all = all

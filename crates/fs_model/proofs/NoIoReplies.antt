@@ -8,7 +8,7 @@ use Rattle.fs_cred.specs.declared.refusal.Refusal.TheVariants.{Denied, Failed}
 use Rattle.fs_layout.specs.Maps.{get}
 use Rattle.fs_model.specs.declared.call.Call.{Call}
 use Rattle.fs_model.specs.declared.event.Event.{Event}
-use Rattle.fs_model.specs.declared.event.Event.TheVariants.{Spawn, Exit, Call as Calls, Enter, Stamp, Clock, Fsync, Sync, Statfs, Arm, Restart}
+use Rattle.fs_model.specs.declared.event.Event.TheVariants.{Spawn, Exit, Call as Calls, CallAt, Enter, Stamp, Clock, Fsync, Sync, Statfs, Arm, Restart}
 use Rattle.fs_model.specs.declared.reply.Reply.TheVariants.{Refused}
 use Rattle.fs_model.specs.Demands.{Demand}
 use Rattle.fs_model.specs.Processes.{Process}
@@ -31,6 +31,7 @@ entering_answers s pid directory second (Some p) = refl
 pub event_answers : (s : State) (e : Event) (choice : Choice) → is_io_error (after s e choice).reply ≡ false
 unfolding after
 event_answers s (Calls pid call) choice = process_answers s pid call choice.ino (get nat_cmp s.processes pid)
+event_answers s (CallAt v call) choice = (each_call call).replies _ choice.ino
 event_answers s (Fsync pid fd) choice = refl
 event_answers s (Exit pid) choice = refl
 event_answers s (Spawn cred) choice = refl

@@ -16,11 +16,11 @@ use Rattle.fs_model.specs.Steps.{firm_refusal, other_refusal, after}
 use Rattle.fs_model.proofs.Machine.{then_replies, to_write, failed, shows_file}
 
 -- of user 1000 the directories 3 and 4, /w/a and /w/b, and the file 5, /w/a/f
-abbrev two_directories : List Event
+abbrev pub two_directories : List Event
 two_directories =
     Calls 2 (Mkdir (codes "/w/a") 0o755) ∷ Calls 2 (Mkdir (codes "/w/b") 0o755) ∷ Calls 2 (Open (codes "/w/a/f") to_write 0o644) ∷ []
 
-abbrev they_come : List Reply
+abbrev pub they_come : List Reply
 they_come = Done ∷ Done ∷ Fd 0 ∷ []
 
 -- the process, then whether both are there, then whether both are directories; 0 is none, and 64 lies past the table

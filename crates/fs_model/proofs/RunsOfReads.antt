@@ -250,7 +250,7 @@ module _ (pid fd : ℕ) (s new : State) (is : IsState s) (most : ℕ) (bytes : L
       let p = r.process in
       let x = r.is in
       let effect = read_effect fd most (scene_of s p (read_row fd most)) in
-      let leaves = effect_leaves s pid p effect is x.runs x.here
+      let leaves = effect_leaves s (Some pid) p effect is x.runs x.here
       (read_fits (scene_of s p (read_row fd most)) (scene_is s pid p (read_row fd most) is x.runs x.here) fd most (x.early, tt)) in
       let may = subst (λ (t : Tree). MayBeFree s.room t new.free) (sym (stays pid fd s is p x.runs x.here x.early _)) x.may_be in
       subst IsState

@@ -194,7 +194,7 @@ module _ (pid fd : ℕ) (s : State) (is : IsState s) (p : Process) (runs : IsFal
         → IsState (wrote pid fd s p (offset_of fd s p) (take count bytes) count free)
     wrote_is_state free may =
         subst IsState (left_is free)
-        (acted_is_state s (after_effect s pid effect) free is (effect_leaves s pid p effect is runs here effect_fits) is.now
+        (acted_is_state s (after_effect s pid effect) free is (effect_leaves s (Some pid) p effect is runs here effect_fits) is.now
         (subst (λ (t : Tree). MayBeFree s.room t free) (sym tree_is) may))
 
 -- ---- steps

@@ -7,7 +7,7 @@ use Rattle.fs_cred.specs.declared.refusal.Refusal.TheVariants.{Failed}
 use Rattle.fs_model.specs.declared.reply.Reply.{Reply}
 use Rattle.fs_model.specs.declared.reply.Reply.TheVariants.{Done, Refused}
 use Rattle.fs_model.specs.declared.event.Event.{Event}
-use Rattle.fs_model.specs.declared.event.Event.TheVariants.{Spawn, Exit, Call as Calls, Enter, Stamp, Clock, Fsync, Sync, Statfs, Arm, Restart}
+use Rattle.fs_model.specs.declared.event.Event.TheVariants.{Spawn, Exit, Call as Calls, CallAt, Enter, Stamp, Clock, Fsync, Sync, Statfs, Arm, Restart}
 use Rattle.fs_model.specs.declared.event.EventReply.TheVariants.{Reply as Replies}
 use Rattle.fs_model.specs.Trees.{Tree}
 use Rattle.fs_model.specs.TreeChanges.{pruned}
@@ -48,6 +48,7 @@ stable_list Sync r trees t h is = ap (λ q. trees_after Sync q trees t) is
 stable_list (Spawn cred) r trees t h is = absurd cc
 stable_list (Exit pid) r trees t h is = absurd cc
 stable_list (Calls pid call) r trees t h is = absurd cc
+stable_list (CallAt v call) r trees t h is = absurd cc
 stable_list (Enter pid directory second) r trees t h is = absurd cc
 stable_list (Stamp n atime mtime ctime) r trees t h is = absurd cc
 stable_list (Clock time) r trees t h is = absurd cc

@@ -1,11 +1,13 @@
 -- Where nothing refuses, each demand is met.
-use Rattle.std.specs.Prelude.{◌≡◌, ℕ, Bool, true, false, List, [], ◌∷◌, ◌++◌, Option, None, Some, is_some, unwrap_or, ◌&&◌}
+use Rattle.std.specs.Prelude.{◌≡◌, ◌==◌, ℕ, nat_le, Bool, true, false, List, [], ◌∷◌, ◌++◌, Option, None, Some, is_some, unwrap_or, ◌&&◌}
 use Rattle.std.proofs.Common.{refl}
 use Rattle.std.specs.Ordering.{nat_cmp}
 use Rattle.fs_layout.specs.Maps.{get}
 use Rattle.std.specs.List.{flat_map}
 use Rattle.fs_cred.specs.declared.errno.Errno.{Errno}
+use Rattle.fs_cred.specs.declared.errno.Errno.TheVariants.{ENOENT, EMLINK}
 use Rattle.fs_model.specs.Demands.{Demand, refuse, or_else, first_of}
+use Rattle.fs_model.specs.NameCalls.{link_count_demand}
 use Rattle.fs_model.specs.Parts.{path_checks}
 use Rattle.fs_model.specs.Processes.{Process, Descriptor, descriptor, the_descriptor, no_descriptor}
 use Rattle.fs_model.specs.States.{State}
@@ -53,6 +55,10 @@ met_right (d ∷ ds) es h = met_right ds es h.1
 pub unrefused : (e : Errno) (b : Bool) → refuse e b ≡ None → b ≡ false
 unrefused e true h = absurd cc
 unrefused e false h = refl
+
+-- what gets a name has fewer than the most
+pub link_count_met : (most names : ℕ) → link_count_demand most names ≡ None → nat_le most names ≡ false
+link_count_met most names met = unrefused EMLINK (nat_le most names) (then_met (refuse ENOENT (names == 0)) _ met)
 
 -- where both don't hold, and the first does
 pub and_false : (a b : Bool) → (a && b) ≡ false → a ≡ true → b ≡ false

@@ -6,7 +6,7 @@ use Rattle.fs_model.specs.declared.reply.Reply.{Reply}
 use Rattle.fs_layout.specs.Maps.{get, with_entry, IsMap}
 use Rattle.fs_model.specs.Nodes.{Node}
 use Rattle.fs_model.specs.Trees.{Tree, Room, node_at, with_node, IsTree}
-use Rattle.fs_model.specs.Processes.{Process}
+use Rattle.fs_model.specs.Processes.{Process, ProcessTable}
 use Rattle.fs_model.specs.Births.{the_node, no_node}
 use Rattle.fs_model.specs.declared.touch.Touch.{Touch}
 use Rattle.fs_model.specs.TreeChanges.{Same, Rewrite, changed}
@@ -44,11 +44,11 @@ module _ (room : Room) (t : Tree) (is : IsTree room t) (cwd : ℕ) (there : IsTh
   unfolding found_of
   found_is_there walk n e = finds_are_there room t is cwd walk.0 walk.1 there n e
 
-  first_is_there : (walks : List (Form × List ℕ)) (n : ℕ) → (first_found room t cwd walks).ino ≡ Some n → IsThere t n
+  pub first_is_there : (walks : List (Form × List ℕ)) (n : ℕ) → (first_found room t cwd walks).ino ≡ Some n → IsThere t n
   first_is_there [] n e = absurd cc
   first_is_there (walk ∷ walks) n e = found_is_there walk n e
 
-  second_is_there : (walks : List (Form × List ℕ)) (n : ℕ) → (second_found room t cwd walks).ino ≡ Some n → IsThere t n
+  pub second_is_there : (walks : List (Form × List ℕ)) (n : ℕ) → (second_found room t cwd walks).ino ≡ Some n → IsThere t n
   second_is_there [] n e = absurd cc
   second_is_there (walk ∷ walks) n e = first_is_there walks n e
 
@@ -94,9 +94,22 @@ pub length-replaced : {X : Type 0} (m : List (ℕ × X)) (k : ℕ) (x y : X) →
     → length (with_entry nat_cmp m k y) ≡ length m
 length-replaced m k x y h here = length-with_entry m k y h ∙ ap (λ o. cond (is_some o) (length m) (length m + 1)) here
 
-pub effect_leaves : (s : State) (pid : ℕ) (p : Process) (effect : Effect) → IsState s → IsFalse s.halted → get nat_cmp s.processes pid ≡ Some p
-    → EffectFits s effect → MayBeLeft s.room (changed s.tree effect.change) (with_entry nat_cmp s.processes pid effect.process)
-effect_leaves s pid p effect is runs here fits =
+-- who calls: a process with a number, or nobody of the table
+abbrev pub IsCaller : ProcessTable → Option ℕ → Process → Type 0
+IsCaller processes None p = Unit {0}
+IsCaller processes (Some pid) p = get nat_cmp processes pid ≡ Some p
+
+-- the table with the caller as it is now
+abbrev pub with_caller : ProcessTable → Option ℕ → Process → ProcessTable
+with_caller processes None p = processes
+with_caller processes (Some pid) p = with_entry nat_cmp processes pid p
+
+pub effect_leaves : (s : State) (caller : Option ℕ) (p : Process) (effect : Effect) → IsState s → IsFalse s.halted → IsCaller s.processes caller p
+    → EffectFits s effect → MayBeLeft s.room (changed s.tree effect.change) (with_caller s.processes caller effect.process)
+effect_leaves s None p effect is runs here fits =
+    tree_may_be_left s.room (changed s.tree effect.change) s.processes fits.tree is.pids is.few
+    (λ q r at. process_moves s.tree (changed s.tree effect.change) fits.types r ((is.processes runs).each_process q r at))
+effect_leaves s (Some pid) p effect is runs here fits =
     tree_may_be_left s.room (changed s.tree effect.change) (with_entry nat_cmp s.processes pid effect.process) fits.tree
     (with_entry-IsMap s.processes pid effect.process is.pids)
     (let same = length-replaced s.processes pid p effect.process is.pids here in let few = is.few in omega (arith, same, few))

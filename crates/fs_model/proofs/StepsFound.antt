@@ -73,7 +73,7 @@ module _ (room : Room) (limit : room.name_limit ≤ MAX_NAME) (t : Tree) (is : I
   last_absent (l ∷ []) found ends none = ends
   last_absent (_ ∷ l ∷ lookups) found ends none = last_absent (l ∷ lookups) found ends none
 
-  last_some : (lookups : List Lookup) (found : Option ℕ) → EndsIn room t is follow lookups found → is_empty lookups ≡ false
+  pub last_some : (lookups : List Lookup) (found : Option ℕ) → EndsIn room t is follow lookups found → is_empty lookups ≡ false
       → IsEnd room t is follow (last_lookup start lookups) found
   last_some [] found ends some = absurd cc
   last_some (l ∷ []) found ends some = ends
@@ -123,7 +123,7 @@ module _ (room : Room) (limit : room.name_limit ≤ MAX_NAME) (t : Tree) (is : I
 parent_follows : (form : Form) (path : List ℕ) → form ≡ Parent → follows_last form (parts_of path) ≡ false
 parent_follows form path e = ap (λ f. follows_last f (parts_of path)) e
 
-walk_is_clean : (t : Tree) (cred : Credential) (k : ℕ) (form : Form) (trail : Trail) → first_refusal t cred k form trail ≡ None → HaveNoFault trail.lookups
+pub walk_is_clean : (t : Tree) (cred : Credential) (k : ℕ) (form : Form) (trail : Trail) → first_refusal t cred k form trail ≡ None → HaveNoFault trail.lookups
 unfolding first_refusal
 walk_is_clean t cred k form trail h =
     unrefused_walk cred t k 0 trail.lookups (first_met (least_refusal cred t k 0 trail.lookups) (slash_refusal t form trail) h)

@@ -13,7 +13,7 @@ use Rattle.std.specs.Ordering.{nat_cmp}
 use Rattle.fs_cred.specs.declared.errno.Errno.TheVariants.{ENOENT, ENOTDIR, EAGAIN}
 use Rattle.fs_model.specs.declared.call.Call.{Call}
 use Rattle.fs_model.specs.declared.event.Event.{Event}
-use Rattle.fs_model.specs.declared.event.Event.TheVariants.{Spawn, Exit, Call as Calls, Enter, Stamp, Clock, Fsync, Sync, Statfs, Arm, Restart}
+use Rattle.fs_model.specs.declared.event.Event.TheVariants.{Spawn, Exit, Call as Calls, CallAt, Enter, Stamp, Clock, Fsync, Sync, Statfs, Arm, Restart}
 use Rattle.fs_model.specs.declared.reply.Reply.{Reply}
 use Rattle.fs_model.specs.Limits.{processes_limit}
 use Rattle.fs_layout.specs.Maps.{get, with_entry, without, IsMap}
@@ -32,6 +32,7 @@ use Rattle.fs_layout.proofs.MapLaws.{with_entry-IsMap, length-with_entry}
 use Rattle.fs_model.proofs.StepsDemands.{unrefused, all_met}
 use Rattle.fs_model.proofs.StepsFit.{node_is_there, length-replaced, no_change_fits, effect_leaves}
 use Rattle.fs_model.proofs.StepsOfCalls.{process_leaves}
+use Rattle.fs_model.proofs.StepsOfActors.{actor_leaves}
 use Rattle.fs_model.proofs.StepsProcesses.{without-IsMap, in_without, length-without, in_with_entry, standing_at_fits, new_process_fits}
 use Rattle.fs_model.proofs.Swept.{swept_is_tree}
 use Rattle.fs_model.proofs.StepsSwept.{MayBeLeft, left_is_state, tree_may_be_left}
@@ -79,6 +80,7 @@ processes_after s (Spawn cred) choice are firm = (
 processes_after s (Exit pid) choice are firm =
     (without-IsMap s.processes pid are.0, (let less = length-without s.processes pid in let few = are.1 in omega (arith, less, few)))
 processes_after s (Enter pid directory second) choice are firm = processes_after_enter s pid directory second (get nat_cmp s.processes pid) refl are
+processes_after s (CallAt v call) choice are firm = are
 processes_after s (Stamp n atime mtime ctime) choice are firm = are
 processes_after s (Clock time) choice are firm = are
 processes_after s (Fsync pid fd) choice are firm = are
@@ -117,7 +119,7 @@ module _ (s : State) (is : IsState s) (runs : IsFalse s.halted) where
   enter_leaves pid directory second None here met = same_left
   enter_leaves pid directory second (Some p) here met =
       let are = all_met (enter_demands s.tree directory second) met in
-      effect_leaves s pid p (with_process (standing_at directory second p) Done) is runs here
+      effect_leaves s (Some pid) p (with_process (standing_at directory second p) Done) is runs here
       (no_change_fits s (standing_at directory second p) Done is
       (standing_at_fits s.tree p ((is.processes runs).each_process pid p here) directory second
       (directory_met s.tree directory are.0 are.1.1.0) (directory_met s.tree second are.1.0 are.1.1.1.0)))
@@ -139,6 +141,8 @@ module _ (s : State) (is : IsState s) (runs : IsFalse s.halted) where
   unfolding after firm_refusal other_refusal
   event_leaves (Calls pid call) choice in_range firm other fresh =
       call_leaves pid choice.ino call (get nat_cmp s.processes pid) refl in_range.1 firm other fresh
+  event_leaves (CallAt v call) choice in_range firm other fresh =
+      actor_leaves s v call is runs in_range.0 in_range.4 firm other choice.ino fresh
   event_leaves (Spawn cred) choice in_range firm other fresh =
       tree_may_be_left s.room s.tree (with_entry nat_cmp s.processes choice.pid (new_process cred)) is.tree
       (with_entry-IsMap s.processes choice.pid (new_process cred) is.pids)
@@ -196,6 +200,7 @@ now_after s (Enter pid directory second) choice is fits = go (get nat_cmp s.proc
     go (Some p) = is.now
 now_after s (Clock time) choice is fits = fits
 now_after s (Stamp n atime mtime ctime) choice is fits = is.now
+now_after s (CallAt v call) choice is fits = is.now
 now_after s (Spawn cred) choice is fits = is.now
 now_after s (Exit pid) choice is fits = is.now
 now_after s (Fsync pid fd) choice is fits = is.now

@@ -1,33 +1,31 @@
 -- What the walks of a call have found, and what it leaves where nothing refuses.
-use Rattle.std.specs.Prelude.{◌≡◌, ℕ, ◌≤◌, ◌==◌, Bool, true, false, not, ◌&&◌, cond, List, [], ◌∷◌, None, Some}
-use Rattle.std.proofs.Common.{refl, sym, ap, subst}
+use Rattle.std.specs.Prelude.{◌≡◌, ℕ, ◌==◌, Bool, true, false, not, ◌&&◌, cond, List, [], ◌∷◌, Option, None}
+use Rattle.std.proofs.Common.{refl, ap, subst}
 use Rattle.std.specs.List.{AllByRecursion, list_any, flat_map}
-use Rattle.std.specs.Ordering.{nat_cmp}
 use Rattle.fs_cred.specs.declared.errno.Errno.TheVariants.{EINVAL}
-use Rattle.fs_layout.specs.declared.slot.TheConstants.{MAX_NAME}
 use Rattle.fs_layout.specs.Bytes.{IsBytes}
 use Rattle.fs_model.specs.declared.call.Flags.{Flags}
 use Rattle.fs_model.specs.declared.call.Call.{Call}
 use Rattle.fs_model.specs.declared.reply.Reply.TheVariants.{Done}
-use Rattle.fs_layout.specs.Maps.{get, with_entry}
 use Rattle.fs_model.specs.Nodes.{with_bytes}
-use Rattle.fs_model.specs.Trees.{IsTree}
+use Rattle.fs_model.specs.Trees.{Tree, Room}
 use Rattle.fs_model.specs.Processes.{Process}
 use Rattle.fs_model.specs.Births.{born_file}
 use Rattle.fs_model.specs.declared.touch.Touch.TheVariants.{Modified}
 use Rattle.fs_model.specs.TreeChanges.{Same, Rewrite, Make, MoveName, changed}
 use Rattle.fs_model.specs.States.{State, IsState}
 use Rattle.fs_model.specs.declared.walk.Form.{Form}
+use Rattle.fs_model.specs.declared.walk.Found.{Found}
 use Rattle.fs_model.specs.declared.walk.Form.TheVariants.{Parent}
 use Rattle.fs_model.specs.Parts.{path_checks}
-use Rattle.fs_model.specs.Scenes.{Scene, Effect, Row, is_found, found_ino, node_found, body_found, dir_node, answers, changes}
+use Rattle.fs_model.specs.Scenes.{Scene, Effect, is_found, found_ino, node_found, body_found, dir_node, answers, changes}
 use Rattle.fs_model.specs.OpenCall.{open_form, open_early, open_found_demands, open_new_demands, open_demands, open_change, open_effect}
 use Rattle.fs_model.specs.RenameCall.{is_same, rename_demands, rename_effect}
 use Rattle.fs_model.specs.Rows.{row_of}
 use Rattle.fs_model.specs.Steps.{scene_of, first_found, second_found, walk_refusals, early_refusal, late_refusal, HasNewNumber}
 use Rattle.fs_model.specs.Ranges.{IsCall}
 use Rattle.fs_model.proofs.StepsDemands.{AreMet, unrefused, arguments_met, paths_met, early_met, walks_met, demands_met}
-use Rattle.fs_model.proofs.StepsFit.{IsScene, EffectFits, effect_leaves}
+use Rattle.fs_model.proofs.StepsFit.{IsScene, EffectFits, IsCaller, with_caller, effect_leaves}
 use Rattle.fs_model.proofs.StepsFound.{IsWalked, is_walked}
 use Rattle.fs_model.proofs.StepsOfDescriptors.{answer_fits}
 use Rattle.fs_model.proofs.StepsOfMaking.{no_find, open_new_fits}
@@ -43,32 +41,36 @@ Walks = List (Form × List ℕ)
 abbrev pub AreBytes : Walks → Type 0
 AreBytes walks = AllByRecursion (λ w. IsBytes w.1) walks
 
+abbrev pub HaveNoZero : Walks → Type 0
+HaveNoZero walks = AllByRecursion (λ w. list_any (λ b. b == 0) w.1 ≡ false) walks
+
+pub no_zero_asked : (walks : Walks) → AreMet (flat_map (λ w. path_checks w.1) walks) → HaveNoZero walks
+no_zero_asked [] asked = tt
+no_zero_asked (walk ∷ walks) asked = (unrefused EINVAL (list_any (λ b. b == 0) walk.1) asked.1.0, no_zero_asked walks asked.1.1.1)
+
 -- what the first walk found, and the second
-abbrev pub FirstWalked : Scene → Walks → Type 0
-FirstWalked c [] = Unit {0}
-FirstWalked c (walk ∷ _) = IsWalked c.state.room c.state.tree walk.0 c.first
+abbrev pub FirstWalked : Room → Tree → Found → Walks → Type 0
+FirstWalked room t f [] = Unit {0}
+FirstWalked room t f (walk ∷ _) = IsWalked room t walk.0 f
 
-abbrev pub SecondWalked : Scene → Walks → Type 0
-SecondWalked c [] = Unit {0}
-SecondWalked c (_ ∷ []) = Unit {0}
-SecondWalked c (_ ∷ walk ∷ _) = IsWalked c.state.room c.state.tree walk.0 c.second
+abbrev pub SecondWalked : Room → Tree → Found → Walks → Type 0
+SecondWalked room t f [] = Unit {0}
+SecondWalked room t f (_ ∷ []) = Unit {0}
+SecondWalked room t f (_ ∷ walk ∷ _) = IsWalked room t walk.0 f
 
-pub first_walked : (s : State) (p : Process) (row : Row) (walks : Walks) → s.room.name_limit ≤ MAX_NAME → IsTree s.room s.tree
-    → row.walks ≡ walks → AreBytes walks
-    → AreMet (flat_map (λ w. path_checks w.1) walks) → AreMet (walk_refusals s.room s.tree p 1 walks) → FirstWalked (scene_of s p row) walks
-first_walked s p row [] limit is e bytes asked met = tt
-first_walked s p row (walk ∷ walks) limit is e bytes asked met =
-    let found = is_walked s.room limit s.tree is p.cred p.cwd 1 walk bytes.0 (unrefused EINVAL (list_any (λ b. b == 0) walk.1) asked.1.0) met.0 in
-    subst (λ ws. IsWalked s.room s.tree walk.0 (first_found s.room s.tree p.cwd ws)) (sym e) found
+-- whoever walks, from wherever
+pub first_walked : (s : State) (p : Process) (walks : Walks) → IsState s → AreBytes walks → HaveNoZero walks
+    → AreMet (walk_refusals s.room s.tree p 1 walks) → FirstWalked s.room s.tree (first_found s.room s.tree p.cwd walks) walks
+first_walked s p [] is bytes zeros met = tt
+first_walked s p (walk ∷ walks) is bytes zeros met =
+    is_walked s.room is.room.name_limit s.tree is.tree p.cred p.cwd 1 walk bytes.0 zeros.0 met.0
 
-pub second_walked : (s : State) (p : Process) (row : Row) (walks : Walks) → s.room.name_limit ≤ MAX_NAME → IsTree s.room s.tree
-    → row.walks ≡ walks → AreBytes walks
-    → AreMet (flat_map (λ w. path_checks w.1) walks) → AreMet (walk_refusals s.room s.tree p 1 walks) → SecondWalked (scene_of s p row) walks
-second_walked s p row [] limit is e bytes asked met = tt
-second_walked s p row (_ ∷ []) limit is e bytes asked met = tt
-second_walked s p row (_ ∷ walk ∷ walks) limit is e bytes asked met =
-    let found = is_walked s.room limit s.tree is p.cred p.second_cwd 2 walk bytes.1.0 (unrefused EINVAL (list_any (λ b. b == 0) walk.1) asked.1.1.1.1.0) met.1.0 in
-    subst (λ ws. IsWalked s.room s.tree walk.0 (second_found s.room s.tree p.second_cwd ws)) (sym e) found
+pub second_walked : (s : State) (p : Process) (walks : Walks) → IsState s → AreBytes walks → HaveNoZero walks
+    → AreMet (walk_refusals s.room s.tree p 1 walks) → SecondWalked s.room s.tree (second_found s.room s.tree p.second_cwd walks) walks
+second_walked s p [] is bytes zeros met = tt
+second_walked s p (_ ∷ []) is bytes zeros met = tt
+second_walked s p (_ ∷ walk ∷ walks) is bytes zeros met =
+    is_walked s.room is.room.name_limit s.tree is.tree p.cred p.second_cwd 2 walk bytes.1.0 zeros.1.0 met.1.0
 
 -- ---- a call that nothing refuses
 
@@ -77,32 +79,32 @@ pub record IsUnrefused (c : Scene) (call : Call) : Type 0 where
   pub arguments : AreMet (row_of call).arguments
   pub early : AreMet ((row_of call).early c.process)
   pub demands : AreMet ((row_of call).demands c)
-  pub first : FirstWalked c (row_of call).walks
-  pub second : SecondWalked c (row_of call).walks
+  pub first : FirstWalked c.state.room c.state.tree c.first (row_of call).walks
+  pub second : SecondWalked c.state.room c.state.tree c.second (row_of call).walks
 
 pub unrefused_call : (s : State) (p : Process) (call : Call) → IsState s → IsCall call → AreBytes (row_of call).walks
     → early_refusal p (row_of call) ≡ None → late_refusal s p (row_of call) ≡ None → IsUnrefused (scene_of s p (row_of call)) call
 unrefused_call s p call is fits bytes early late =
     let row = row_of call in
-    let paths = paths_met p row early in
+    let zeros = no_zero_asked row.walks (paths_met p row early) in
     let walks = walks_met s p row late in
     record {
       fits = fits;
       arguments = arguments_met p row early;
       early = early_met p row early;
       demands = demands_met s p row late;
-      first = first_walked s p row row.walks is.room.name_limit is.tree refl bytes paths walks;
-      second = second_walked s p row row.walks is.room.name_limit is.tree refl bytes paths walks;
+      first = first_walked s p row.walks is bytes zeros walks;
+      second = second_walked s p row.walks is bytes zeros walks;
     }
 
 -- ---- what it leaves
 
-module _ (c : Scene) (is : IsScene c) (pid : ℕ) (here : get nat_cmp c.state.processes pid ≡ Some c.process) where
+module _ (c : Scene) (is : IsScene c) (caller : Option ℕ) (here : IsCaller c.state.processes caller c.process) where
   abbrev pub Leaves : Effect → Type 0
-  Leaves e = MayBeLeft c.state.room (changed c.state.tree e.change) (with_entry nat_cmp c.state.processes pid e.process)
+  Leaves e = MayBeLeft c.state.room (changed c.state.tree e.change) (with_caller c.state.processes caller e.process)
 
   pub fits_leave : (e : Effect) → EffectFits c.state e → Leaves e
-  fits_leave e fits = effect_leaves c.state pid c.process e is.state is.running here fits
+  fits_leave e fits = effect_leaves c.state caller c.process e is.state is.running here fits
 
   -- whatever is answered
   pub answer_leaves : Leaves (answers c Done)
@@ -132,4 +134,4 @@ module _ (c : Scene) (is : IsScene c) (pid : ℕ) (here : get nat_cmp c.state.pr
     where
       go : (b : Bool) → is_same c ≡ b → Leaves (changes c (cond b Same (MoveName c.first.dir_ino c.first.name c.second.dir_ino c.second.name)))
       go true e = answer_leaves
-      go false e = rename_leaves c is pid here first second met e
+      go false e = rename_leaves c is caller here first second met e

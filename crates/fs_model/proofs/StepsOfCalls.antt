@@ -22,4 +22,4 @@ pub process_leaves : (s : State) (pid : ℕ) (p : Process) (call : Call) (new : 
 process_leaves s pid p call new is runs here fits early late fresh =
     let row = row_of call in
     let of = each_call call in
-    of.leaves (scene_of s p row) (scene_is s pid p row is runs here) pid here new (unrefused_call s p call is fits (of.paths fits) early late) fresh
+    of.leaves (scene_of s p row) (scene_is s pid p row is runs here) (Some pid) here new (unrefused_call s p call is fits (of.paths fits) early late) fresh

@@ -5,7 +5,7 @@ use Rattle.std.proofs.lemmas.Bool.{or_parts}
 use Rattle.std.proofs.lemmas.Bool.Decides.{nat_tests}
 use Rattle.std.proofs.lemmas.List.Elements.{All-from_recursion}
 use Rattle.std.specs.List.{list_any, AllByRecursion}
-use Rattle.fs_cred.specs.declared.errno.Errno.TheVariants.{EPERM, ENOENT, EEXIST, EINVAL, ENAMETOOLONG, EMFILE, EMLINK, ENOSPC}
+use Rattle.fs_cred.specs.declared.errno.Errno.TheVariants.{EPERM, ENOENT, EEXIST, EINVAL, ENAMETOOLONG, EMFILE, ENOSPC}
 use Rattle.fs_layout.specs.Bytes.{IsBytes}
 use Rattle.fs_model.specs.declared.call.Flags.{Flags}
 use Rattle.fs_model.specs.declared.reply.Reply.{Reply}
@@ -25,7 +25,7 @@ use Rattle.fs_model.specs.Scenes.{Scene, is_found, is_special, found_ino, node_f
 use Rattle.fs_model.specs.OpenCall.{open_early, open_process, open_effect}
 use Rattle.fs_model.specs.NameCalls.{mkdir_effect, symlink_arguments, symlink_effect, link_demands, link_effect}
 use Rattle.fs_model.proofs.StepsAdding.{AddsName, gives_name, added_is_tree, added_keeps_types}
-use Rattle.fs_model.proofs.StepsDemands.{AreMet, unrefused, and_false}
+use Rattle.fs_model.proofs.StepsDemands.{AreMet, unrefused, link_count_met, and_false}
 use Rattle.fs_model.proofs.StepsFit.{IsScene, EffectFits, node_is_there}
 use Rattle.fs_model.proofs.StepsFound.{IsNameAt}
 use Rattle.fs_model.proofs.StepsKinds.{KeepsTypes, process_moves}
@@ -194,15 +194,15 @@ pub link_fits : (c : Scene) → IsScene c → IsNameAt c.state.room c.state.tree
 link_fits c is name met =
     let t = c.state.tree in
     let n = found_ino c.first in
-    let found = is_found_if c.first met.1.0 in
+    let found = is_found_if c.first met.0 in
     let target = node_found c c.first in
     let dir_ino = c.second.dir_ino in
     let directory = dir_node c c.second in
     let x = dir_is_there t dir_ino c.second.name None name in
-    let no_directory : is_directory target.body ≡ false = and_false (is_found c.first) (is_directory target.body) (unrefused EPERM (is_directory_found c c.first) met.1.1.1.0) found in
-    let many : nat_le c.state.room.names_limit (names_of t n) ≡ false = unrefused EMLINK _ met.1.1.1.1.1.1.1.0 in
+    let no_directory : is_directory target.body ≡ false = and_false (is_found c.first) (is_directory target.body) (unrefused EPERM (is_directory_found c c.first) met.1.1.0) found in
+    let many : nat_le c.state.room.names_limit (names_of t n) ≡ false = link_count_met c.state.room.names_limit (names_of t n) met.1.1.1.1.1.1.0 in
     let few : names_of t n < c.state.room.names_limit = grind (arith, nat_tests) in
-    let full : nat_le c.state.room.entries_limit (length (names_of_body directory.body)) ≡ false = unrefused ENOSPC _ met.1.1.1.1.1.1.1.1.1.0 in
+    let full : nat_le c.state.room.entries_limit (length (names_of_body directory.body)) ≡ false = unrefused ENOSPC _ met.1.1.1.1.1.1.1.1.0 in
     let free : length (names_of_body directory.body) < c.state.room.entries_limit = grind (arith, nat_tests) in
     let adds =
     gives_name c.state.room t dir_ino directory c.second.name n target is.state.tree (record {

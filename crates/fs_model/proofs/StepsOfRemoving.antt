@@ -1,13 +1,13 @@
 -- What calls that take or move a name leave: unlink, rmdir and rename.
-use Rattle.std.specs.Prelude.{◌≡◌, ℕ, true, false, not, ◌||◌, List, [], ◌∷◌, Some}
+use Rattle.std.specs.Prelude.{◌≡◌, ℕ, true, false, not, ◌||◌, List, [], ◌∷◌, Option, None, Some}
 use Rattle.std.proofs.Common.{refl, sym, ap, ◌∙◌, subst}
 use Rattle.std.proofs.lemmas.Bool.{or_from}
 use Rattle.std.specs.Ordering.{nat_cmp}
 use Rattle.fs_cred.specs.declared.errno.Errno.TheVariants.{EBUSY, EISDIR, EINVAL, ENOTEMPTY}
-use Rattle.fs_layout.specs.Maps.{get, name_cmp, with_entry, without}
+use Rattle.fs_layout.specs.Maps.{name_cmp, without, IsMap}
 use Rattle.fs_model.specs.Nodes.{is_directory, names_of_body}
 use Rattle.fs_model.specs.Trees.{IsDirectoryAt}
-use Rattle.fs_model.specs.Processes.{is_in_use}
+use Rattle.fs_model.specs.Processes.{Process, ProcessTable, is_in_use}
 use Rattle.fs_model.specs.TreeChanges.{Change, TakeName, with_names_at, changed}
 use Rattle.fs_model.specs.Parts.{is_empty}
 use Rattle.fs_model.specs.declared.walk.Form.TheVariants.{Parent}
@@ -15,7 +15,7 @@ use Rattle.fs_model.specs.Scenes.{Scene, is_found, is_special, found_ino, node_f
 use Rattle.fs_model.specs.NameCalls.{unlink_demands, rmdir_demands}
 use Rattle.fs_model.proofs.StepsDemands.{AreMet, unrefused, and_false}
 use Rattle.fs_layout.proofs.NameMaps.{once_if}
-use Rattle.fs_model.proofs.StepsFit.{IsScene}
+use Rattle.fs_model.proofs.StepsFit.{IsScene, IsCaller, with_caller}
 use Rattle.fs_model.proofs.StepsFound.{IsNameAt, IsWalked}
 use Rattle.fs_model.proofs.StepsLosing.{LosesNames, loses_may_be_left}
 use Rattle.fs_model.proofs.StepsNaming.{renamed}
@@ -43,12 +43,17 @@ found_directory c is found d =
 
 -- ---- the process stays
 
-module _ (c : Scene) (is : IsScene c) (pid : ℕ) (here : get nat_cmp c.state.processes pid ≡ Some c.process) where
-  processes_stay : with_entry nat_cmp c.state.processes pid c.process ≡ c.state.processes
-  processes_stay = same_process_stays c.state.processes pid c.process is.state.pids here
+caller_stays : (processes : ProcessTable) (caller : Option ℕ) (p : Process) → IsMap nat_cmp processes → IsCaller processes caller p
+    → with_caller processes caller p ≡ processes
+caller_stays processes None p is here = refl
+caller_stays processes (Some pid) p is here = same_process_stays processes pid p is here
+
+module _ (c : Scene) (is : IsScene c) (caller : Option ℕ) (here : IsCaller c.state.processes caller c.process) where
+  processes_stay : with_caller c.state.processes caller c.process ≡ c.state.processes
+  processes_stay = caller_stays c.state.processes caller c.process is.state.pids here
 
   pub loses_leaves : (change : Change) (lost : ℕ → ℕ) → LosesNames c.state.room c.state.tree (changed c.state.tree change) c.state.processes lost
-      → MayBeLeft c.state.room (changed c.state.tree change) (with_entry nat_cmp c.state.processes pid c.process)
+      → MayBeLeft c.state.room (changed c.state.tree change) (with_caller c.state.processes caller c.process)
   loses_leaves change lost h =
       subst (MayBeLeft c.state.room (changed c.state.tree change)) (sym processes_stay)
       (loses_may_be_left c.state.room c.state.tree (changed c.state.tree change) c.state.processes lost is.state.tree h is.state.pids is.state.few
@@ -59,7 +64,7 @@ module _ (c : Scene) (is : IsScene c) (pid : ℕ) (here : get nat_cmp c.state.pr
   taken_leaves : IsNameAt c.state.room c.state.tree c.first.dir_ino c.first.name c.first.ino → is_found c.first ≡ true
       → (IsDirectoryAt c.state.tree (found_ino c.first) → names_at c.state.tree (found_ino c.first) ≡ [])
       → (IsDirectoryAt c.state.tree (found_ino c.first) → is_in_use c.state.processes (found_ino c.first) ≡ false)
-      → MayBeLeft c.state.room (changed c.state.tree (TakeName c.first.dir_ino c.first.name)) (with_entry nat_cmp c.state.processes pid c.process)
+      → MayBeLeft c.state.room (changed c.state.tree (TakeName c.first.dir_ino c.first.name)) (with_caller c.state.processes caller c.process)
   taken_leaves name found empty unused =
       let t = c.state.tree in
       let x = dir_is_there t c.first.dir_ino c.first.name c.first.ino name in
@@ -77,7 +82,7 @@ module _ (c : Scene) (is : IsScene c) (pid : ℕ) (here : get nat_cmp c.state.pr
       })))
 
   pub unlink_leaves : IsWalked c.state.room c.state.tree Parent c.first → AreMet (unlink_demands c)
-      → MayBeLeft c.state.room (changed c.state.tree (TakeName c.first.dir_ino c.first.name)) (with_entry nat_cmp c.state.processes pid c.process)
+      → MayBeLeft c.state.room (changed c.state.tree (TakeName c.first.dir_ino c.first.name)) (with_caller c.state.processes caller c.process)
   unlink_leaves walked met =
       let special : is_special c.first ≡ false = unrefused EISDIR (is_special c.first) met.0 in
       let found = is_found_if c.first met.1.0 in
@@ -87,7 +92,7 @@ module _ (c : Scene) (is : IsScene c) (pid : ℕ) (here : get nat_cmp c.state.pr
       (λ d. absurd (let yes = found_directory c is found d in cc))
 
   pub rmdir_leaves : IsWalked c.state.room c.state.tree Parent c.first → AreMet (rmdir_demands c)
-      → MayBeLeft c.state.room (changed c.state.tree (TakeName c.first.dir_ino c.first.name)) (with_entry nat_cmp c.state.processes pid c.process)
+      → MayBeLeft c.state.room (changed c.state.tree (TakeName c.first.dir_ino c.first.name)) (with_caller c.state.processes caller c.process)
   rmdir_leaves walked met =
       let top : ends_top c.first ≡ false = unrefused EBUSY (ends_top c.first) met.0 in
       let dot : ends_dot c.first ≡ false = unrefused EINVAL (ends_dot c.first) met.1.0 in

@@ -3,13 +3,11 @@
 --     IsRenamed, rename_asks        what it asks where the names are not of one node
 --     others, space_met, has_room, replaced_empty, replaced_unused, outside        what that says
 --     rename_leaves        what it leaves
-use Rattle.std.specs.Prelude.{◌≡◌, ◌≢◌, ℕ, ◌<◌, ◌==◌, nat_le, true, false, not, ◌&&◌, ◌||◌, [], ◌∷◌, ◌++◌, length, None, Some, is_some, unwrap_or}
+use Rattle.std.specs.Prelude.{◌≡◌, ◌≢◌, ℕ, ◌<◌, ◌==◌, nat_le, true, false, not, ◌&&◌, ◌||◌, [], ◌∷◌, ◌++◌, length, Option, None, Some, is_some, unwrap_or}
 use Rattle.std.proofs.Common.{refl, sym, ap, arith, ◌∙◌, subst}
 use Rattle.std.proofs.lemmas.Bool.{or_from, or_parts}
 use Rattle.std.proofs.lemmas.Bool.Decides.{nat_tests}
-use Rattle.std.specs.Ordering.{nat_cmp}
 use Rattle.fs_cred.specs.declared.errno.Errno.TheVariants.{EBUSY, EINVAL, ENOTEMPTY, ENOSPC}
-use Rattle.fs_layout.specs.Maps.{get, with_entry}
 use Rattle.fs_model.specs.Nodes.{is_directory, names_of_body}
 use Rattle.fs_model.specs.Trees.{node_at, is_within, IsDirectoryAt}
 use Rattle.fs_model.specs.Processes.{is_in_use}
@@ -20,7 +18,7 @@ use Rattle.fs_model.specs.Scenes.{Scene, is_found, is_special, found_ino, node_f
 use Rattle.fs_model.specs.RenameCall.{is_same, moves, rename_name_demands, rename_permissions, rename_kinds, rename_directories, rename_moved, rename_space, rename_demands}
 use Rattle.fs_model.proofs.StepsDemands.{AreMet, unrefused, and_false, met_left, met_right}
 use Rattle.fs_layout.proofs.NameMaps.{lost_of}
-use Rattle.fs_model.proofs.StepsFit.{IsScene, node_is_there}
+use Rattle.fs_model.proofs.StepsFit.{IsScene, IsCaller, with_caller, node_is_there}
 use Rattle.fs_model.proofs.StepsFound.{IsNameAt, IsWalked}
 use Rattle.fs_model.proofs.StepsLosing.{LosesNames}
 use Rattle.fs_model.proofs.StepsMoving.{MovesName, moves_loses, moved_is}
@@ -167,9 +165,9 @@ module _ (c : Scene) (is : IsScene c) (asks : IsRenamed c) (same : is_same c ≡
       (moves_loses c.state.room c.state.tree c.state.processes c.first.dir_ino (dir_node c c.first) c.first.name (found_ino c.first) c.second.dir_ino (dir_node c c.second)
       c.second.name c.second.ino is.state.tree (moves_name a b))
 
-pub rename_leaves : (c : Scene) (is : IsScene c) (pid : ℕ) → get nat_cmp c.state.processes pid ≡ Some c.process
+pub rename_leaves : (c : Scene) (is : IsScene c) (caller : Option ℕ) → IsCaller c.state.processes caller c.process
     → IsWalked c.state.room c.state.tree Parent c.first → IsWalked c.state.room c.state.tree Parent c.second → AreMet (rename_demands c) → is_same c ≡ false
-    → MayBeLeft c.state.room (changed c.state.tree (MoveName c.first.dir_ino c.first.name c.second.dir_ino c.second.name)) (with_entry nat_cmp c.state.processes pid c.process)
-rename_leaves c is pid here from to met same =
-    loses_leaves c is pid here (MoveName c.first.dir_ino c.first.name c.second.dir_ino c.second.name) (lost_of c.second.ino)
+    → MayBeLeft c.state.room (changed c.state.tree (MoveName c.first.dir_ino c.first.name c.second.dir_ino c.second.name)) (with_caller c.state.processes caller c.process)
+rename_leaves c is caller here from to met same =
+    loses_leaves c is caller here (MoveName c.first.dir_ino c.first.name c.second.dir_ino c.second.name) (lost_of c.second.ino)
     (rename_loses c is (rename_asks c met same) same from to)

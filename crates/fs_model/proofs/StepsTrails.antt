@@ -126,7 +126,7 @@ module _ (room : Room) (t : Tree) (is : IsTree room t) (follow : Bool) where
   something None rest dir_ino name names slash (Through target) = refl
   something (Some go_on) rest dir_ino name names slash (Through target) = refl
 
-  all_looked_up : (behind : Option GoesOn) → LooksUpAll (lookups_from room t follow behind)
+  pub all_looked_up : (behind : Option GoesOn) → LooksUpAll (lookups_from room t follow behind)
   all_looked_up behind dir_ino [] slash = refl
   all_looked_up behind dir_ino (name ∷ names) slash =
       something behind (λ n. lookups_from room t follow behind n names slash) dir_ino name names slash (looked_up room t (is_empty names) follow dir_ino name (node_at t dir_ino))

@@ -120,6 +120,14 @@ among (e ∷ t) d node n h =
       | inr w ↦ omega (arith, sum_by-cons (λ q. names_for n q.1.body) e t, among t d node n w)
     ]
 
+-- what a directory names has a name
+pub named_once : (t : Tree) (d : ℕ) (node : Node) (name : List ℕ) (n : ℕ) → node_at t d ≡ Some node → get name_cmp (names_of_body node.body) name ≡ Some n
+    → 1 ≤ names_of t n
+named_once t d node name n at here =
+    let one : 1 ≤ names_for n node.body = counted (names_of_body node.body) name n here in
+    let all : names_for n node.body ≤ names_of t n = among t d node n at in
+    omega (arith, one, all)
+
 -- what a sweep keeps
 abbrev pub stays : Tree → ProcessTable → ℕ × Node → Bool
 stays t processes e = not (names_of t e.0 == 0) || lives_nameless processes e.0 e.1.body

@@ -15,7 +15,9 @@ use Rattle.fs_model.specs.declared.walk.Form.{Form}
 use Rattle.fs_model.specs.Walks.{found_of, first_refusal}
 use Rattle.fs_model.specs.Parts.{parts_of, start_of}
 use Rattle.fs_model.specs.Scenes.{Scene, Row}
-use Rattle.fs_model.specs.Steps.{walk_refusals, found_by, first_found, second_found, scene_of, trail_in}
+use Rattle.fs_model.specs.declared.event.Actor.{Actor}
+use Rattle.fs_model.specs.Actors.{judged_as, standing_as}
+use Rattle.fs_model.specs.Steps.{walk_refusals, found_by, first_found, second_found, scene_of, actor_scene, trail_in}
 use Rattle.fs_model.proofs.Veils.{same-blotted, parent-veil, veiled, veil, names_in-blotted, node_at-veil, trail_of-veil, first_refusal-veil}
 
 -- ---- states
@@ -74,6 +76,9 @@ pub scene_of-veil : (s : State) (p : Process) (row : Row) → scene_of (veiled_s
 scene_of-veil s p row =
     ap (λ f. record { state = veiled_state s; process = p; first = f; second = second_found s.room (veil s.tree) p.second_cwd row.walks }) (first_found-veil s.room s.tree p.cwd row.walks)
     ∙ ap (λ f. record { state = veiled_state s; process = p; first = first_found s.room s.tree p.cwd row.walks; second = f }) (second_found-veil s.room s.tree p.second_cwd row.walks)
+
+pub actor_scene-veil : (s : State) (v : Actor) (row : Row) → actor_scene (veiled_state s) v row ≡ veiled_scene (actor_scene s v row)
+actor_scene-veil s v row = ap {A = Scene} (λ c. record c { process = judged_as v }) (scene_of-veil s (standing_as v) row)
 
 -- ---- what is shown of a node
 

@@ -1,6 +1,7 @@
 -- Calls that make, add and remove names: POSIX.1-2017, mkdir(), rmdir(), link(), symlink(), readlink() and unlink().
 -- Where a call could be refused for several reasons the order is our own.
 --     mkdir_row, rmdir_row, link_row, symlink_row, readlink_row, unlink_row        each call
+--     link_count_demand        asked of what has so many names, and is to get one more
 use Rattle.std.specs.Prelude.{ℕ, ◌==◌, nat_lt, nat_le, not, ◌&&◌, List, [], ◌∷◌, length}
 use Rattle.std.specs.List.{list_any}
 use Rattle.fs_cred.specs.declared.errno.Errno.TheVariants.{EPERM, ENOENT, EBUSY, ENOTDIR, EISDIR, EINVAL, EMLINK, ENAMETOOLONG, ENOTEMPTY}
@@ -11,7 +12,7 @@ use Rattle.fs_model.specs.Trees.{names_of}
 use Rattle.fs_model.specs.Processes.{is_in_use}
 use Rattle.fs_model.specs.Births.{born_directory, born_link}
 use Rattle.fs_model.specs.TreeChanges.{Make, AddName, TakeName}
-use Rattle.fs_model.specs.Demands.{Demand, refuse}
+use Rattle.fs_model.specs.Demands.{Demand, refuse, or_else}
 use Rattle.fs_model.specs.Parts.{is_empty}
 use Rattle.fs_model.specs.declared.walk.Form.TheVariants.{NoFollow, Parent}
 use Rattle.fs_model.specs.Scenes.{Scene, Effect, Row, found_ino, body_found, dir_node, is_directory_found, is_nondirectory_found, has_names, is_special, ends_top, ends_dot, ends_dot_dot, permission_at_dir, sticky_at_dir, no_blocks, no_names, space_to_make, must_be_there, must_be_new, check_of_mode, answers, changes, by_path, by_two_paths}
@@ -68,16 +69,19 @@ unlink_row path = by_path [] Parent path unlink_demands takes_name
 
 -- ---- link: a link itself gets the name, not what it leads to
 
+-- A file without names gets none any more, as linkat(2) has it: one is reached from an object alone. Others get no more than the most.
+abbrev pub link_count_demand : ℕ → ℕ → Demand
+link_count_demand most names = or_else (refuse ENOENT (names == 0)) (refuse EMLINK (nat_le most names))
+
 abbrev pub link_demands : Scene → List Demand
 link_demands s =
-    refuse EPERM (is_special s.first)
-    ∷ must_be_there s.first
+    must_be_there s.first
     ∷ refuse ENOTDIR (s.first.slash && is_nondirectory_found s s.first)
     ∷ refuse EPERM (is_directory_found s s.first)
     ∷ must_be_new s.second
     ∷ refuse ENOENT s.second.slash
     ∷ permission_at_dir s s.second 2
-    ∷ refuse EMLINK (nat_le s.state.room.names_limit (names_of s.state.tree (found_ino s.first)))
+    ∷ link_count_demand s.state.room.names_limit (names_of s.state.tree (found_ino s.first))
     ∷ no_blocks s
     ∷ no_names s s.second
     ∷ []

@@ -7,7 +7,7 @@ use Rattle.posix_acl.specs.AccessList.{IsSomeAcl}
 use Rattle.fs_model.specs.declared.call.Call.{Call}
 use Rattle.fs_model.specs.declared.call.Call.TheVariants.{Open, Read, Write, Lseek, Close, Fstat, Stat, Lstat, Access, Truncate, Ftruncate, Chmod, Chown, GetAcl, SetAcl, Readdir, Mkdir, Rmdir, Link, Symlink, Readlink, Unlink, Rename, Chdir, Umask}
 use Rattle.fs_model.specs.declared.event.Event.{Event}
-use Rattle.fs_model.specs.declared.event.Event.TheVariants.{Spawn, Exit, Call as Calls, Enter, Stamp, Clock, Fsync, Sync, Statfs, Arm, Restart}
+use Rattle.fs_model.specs.declared.event.Event.TheVariants.{Spawn, Exit, Call as Calls, CallAt, Enter, Stamp, Clock, Fsync, Sync, Statfs, Arm, Restart}
 
 abbrev pub IsSomeId : Option ℕ → Type 0
 IsSomeId None = Unit {0}
@@ -53,6 +53,8 @@ abbrev pub IsEvent : Event → Type 0
 IsEvent (Spawn cred) = IsCredential cred
 IsEvent (Exit pid) = pid < 2 ^ 64
 IsEvent (Calls pid call) = (pid < 2 ^ 64) × IsCall call
+IsEvent (CallAt actor call) =
+    IsCredential actor.cred × (actor.umask < 2 ^ 16) × (actor.start < 2 ^ 32) × (actor.second_start < 2 ^ 32) × IsCall call
 IsEvent (Enter pid directory second) = (pid < 2 ^ 64) × (directory < 2 ^ 32) × (second < 2 ^ 32)
 IsEvent (Stamp n atime mtime ctime) = (n < 2 ^ 32) × IsSomeCount atime × IsSomeCount mtime × IsSomeCount ctime
 IsEvent (Clock now) = now < 2 ^ 64

@@ -1,5 +1,5 @@
 -- The abstract machine, one event after another. What may stand in for an answer is our own rule.
---     scene_of        what a call finds
+--     scene_of, actor_scene        what a call finds, and that of an actor
 --     enter_demands        what entering a directory asks
 --     kept_stamps        the times that a node is to have
 --     firm_refusal, other_refusal        the first refusal of an event, in order
@@ -8,7 +8,7 @@
 use Rattle.std.specs.Prelude.{◌≡◌, ℕ, ◌+◌, ◌<◌, ◌≤◌, nat_le, Bool, true, false, not, List, [], ◌∷◌, ◌++◌, length, Option, None, Some, is_some, IsTrue, IsFalse, ◌⊎◌, if◌then◌else◌}
 use Rattle.std.specs.List.{flat_map}
 use Rattle.std.specs.Ordering.{nat_cmp}
-use Rattle.fs_cred.specs.declared.errno.Errno.TheVariants.{ENOENT, ENOTDIR, ESRCH, EIO, EAGAIN, ENOMEM}
+use Rattle.fs_cred.specs.declared.errno.Errno.TheVariants.{ENOENT, EBADF, ENOTDIR, ESRCH, EIO, EAGAIN, ENOMEM}
 use Rattle.fs_cred.specs.declared.refusal.Refusal.{Refusal}
 use Rattle.fs_cred.specs.declared.refusal.Refusal.TheVariants.{Failed}
 use Rattle.fs_model.specs.declared.call.Call.{Call}
@@ -16,7 +16,8 @@ use Rattle.fs_model.specs.declared.call.Call.TheVariants.{Write, Lseek, Close, F
 use Rattle.fs_model.specs.declared.reply.Reply.{Reply}
 use Rattle.fs_model.specs.declared.reply.Reply.TheVariants.{Done, Pid, Space, Stamped, Refused}
 use Rattle.fs_model.specs.declared.event.Event.{Event}
-use Rattle.fs_model.specs.declared.event.Event.TheVariants.{Spawn, Exit, Call as Calls, Enter, Stamp, Clock, Fsync, Statfs, Arm, Restart}
+use Rattle.fs_model.specs.declared.event.Actor.{Actor}
+use Rattle.fs_model.specs.declared.event.Event.TheVariants.{Spawn, Exit, Call as Calls, CallAt, Enter, Stamp, Clock, Fsync, Statfs, Arm, Restart}
 use Rattle.fs_model.specs.Limits.{processes_limit}
 use Rattle.fs_layout.specs.Maps.{get, with_entry, without}
 use Rattle.fs_model.specs.declared.reply.Stamps.{Stamps}
@@ -27,7 +28,7 @@ use Rattle.fs_model.specs.Trees.{Tree, Room, node_at, free_inodes}
 use Rattle.fs_model.specs.Processes.{Process, ProcessTable, new_process, IsNewPid, cwd_of, standing_at}
 use Rattle.fs_model.specs.TreeChanges.{Change, Same, Rewrite, Make, changed, touches, touched, swept}
 use Rattle.fs_model.specs.States.{State, MayBeFree}
-use Rattle.fs_model.specs.Demands.{Demand, refuse, first_of}
+use Rattle.fs_model.specs.Demands.{Demand, refuse, or_else, first_of}
 use Rattle.fs_model.specs.Parts.{parts_of, start_of, path_checks}
 use Rattle.fs_model.specs.declared.walk.Form.{Form}
 use Rattle.fs_model.specs.Trails.{Trail, trail_of}
@@ -36,6 +37,7 @@ use Rattle.fs_model.specs.declared.walk.Last.TheVariants.{Top}
 use Rattle.fs_model.specs.Walks.{found_of, first_refusal, is_nondirectory}
 use Rattle.fs_model.specs.Scenes.{Scene, Effect, Row, is_bad}
 use Rattle.fs_model.specs.Rows.{row_of}
+use Rattle.fs_model.specs.Actors.{judged_as, standing_as, is_actor_call, checks_from, start_demands}
 
 -- ---- what a call finds
 
@@ -70,6 +72,10 @@ scene_of s p row = record {
   second = second_found s.room s.tree p.second_cwd row.walks;
 }
 
+-- an actor is judged at the root, and its paths start at its objects
+abbrev pub actor_scene : State → Actor → Row → Scene
+actor_scene s actor row = record (scene_of s (standing_as actor) row) { process = judged_as actor }
+
 -- ---- refusals
 
 -- the call's arguments, its paths, and what it asks of the process
@@ -79,6 +85,18 @@ early_refusal p row = first_of (row.arguments ++ flat_map (λ walk. path_checks 
 -- the call's walks, and what it asks of what they have found
 abbrev pub late_refusal : State → Process → Row → Demand
 late_refusal s p row = first_of (walk_refusals s.room s.tree p 1 row.walks ++ row.demands (scene_of s p row))
+
+-- the same of an actor: of an empty path nothing is asked
+abbrev pub early_call_at : Actor → Call → Row → Demand
+early_call_at actor call row =
+    or_else (refuse EBADF (not (is_actor_call call)))
+    (first_of (row.arguments ++ flat_map (λ walk. checks_from walk.1) row.walks ++ row.early (judged_as actor)))
+
+-- and before its walks that something stands where they start
+abbrev pub late_call_at : State → Actor → Call → Row → Demand
+late_call_at s actor call row =
+    first_of (start_demands s.tree actor call row.walks
+    ++ walk_refusals s.room s.tree (standing_as actor) 1 row.walks ++ row.demands (actor_scene s actor row))
 
 -- ESRCH where the process isn't there, and else what is asked of it
 abbrev pub demand_of : (Process → Demand) → Option Process → Demand
@@ -91,6 +109,7 @@ of_process s pid f = demand_of f (get nat_cmp s.processes pid)
 -- the first of the refusals for which nothing stands in
 unfoldable pub firm_refusal : State → Event → Demand
 firm_refusal s (Calls pid call) = of_process s pid (λ p. early_refusal p (row_of call))
+firm_refusal s (CallAt actor call) = early_call_at actor call (row_of call)
 firm_refusal s (Fsync pid fd) = of_process s pid (λ p. is_bad fd p)
 firm_refusal s (Exit pid) = of_process s pid (λ p. None)
 firm_refusal s (Enter pid directory second) = of_process s pid (λ p. None)
@@ -109,6 +128,7 @@ enter_demands t directory second =
 -- the first of the others
 unfoldable pub other_refusal : State → Event → Demand
 other_refusal s (Calls pid call) = of_process s pid (λ p. late_refusal s p (row_of call))
+other_refusal s (CallAt actor call) = late_call_at s actor call (row_of call)
 other_refusal s (Enter pid directory second) = first_of (enter_demands s.tree directory second)
 other_refusal s (Stamp n atime mtime ctime) = refuse ENOENT (not (is_some (node_at s.tree n)))
 other_refusal s _ = None
@@ -139,6 +159,10 @@ abbrev pub after_call : State → ℕ → Row → ℕ → Option Process → Aft
 after_call s pid row number None = unchanged s Done
 after_call s pid row number (Some p) = after_effect s pid (row.effect (scene_of s p row) number)
 
+-- nothing of an actor lasts
+abbrev pub after_call_at : State → Effect → After
+after_call_at s effect = record { change = effect.change; processes = s.processes; reply = effect.reply; now = s.now }
+
 abbrev pub after_enter : State → ℕ → ℕ → ℕ → Option Process → After
 after_enter s pid directory second None = unchanged s Done
 after_enter s pid directory second (Some p) =
@@ -159,6 +183,7 @@ after_stamp s n f =
 
 unfoldable pub after : State → Event → Choice → After
 after s (Calls pid call) choice = after_call s pid (row_of call) choice.ino (get nat_cmp s.processes pid)
+after s (CallAt actor call) choice = after_call_at s ((row_of call).effect (actor_scene s actor (row_of call)) choice.ino)
 after s (Exit pid) choice = record { change = Same; processes = without nat_cmp s.processes pid; reply = Done; now = s.now }
 after s (Spawn cred) choice =
     record { change = Same; processes = with_entry nat_cmp s.processes choice.pid (new_process cred); reply = Pid choice.pid; now = s.now }
@@ -204,6 +229,7 @@ asks_in_call _ = true
 
 abbrev pub asks_memory : Event → Bool
 asks_memory (Calls _ call) = asks_in_call call
+asks_memory (CallAt _ call) = asks_in_call call
 asks_memory (Spawn _) = true
 asks_memory _ = false
 

@@ -5,6 +5,16 @@ use crate::reply::Reply;
 use fs_cred::Cred;
 use std::mem;
 
+/// Who makes a call and is no process: the credential, the mask of what is made, and the objects at which the first path of the call
+/// starts, and the second.
+#[derive(Drop)]
+pub struct Actor {
+    pub cred: Cred,
+    pub umask: u16,
+    pub start: u32,
+    pub second_start: u32,
+}
+
 /// What comes to a file system and its disk.
 #[derive(Drop)]
 pub enum Event {
@@ -14,6 +24,9 @@ pub enum Event {
     Exit(usize),
     /// The process with this number makes a call.
     Call(usize, Call),
+    /// A call by someone who is no process. A path that isn't absolute starts at the object that is given, and an empty one leads to
+    /// that object, as with AT_EMPTY_PATH of openat(2).
+    CallAt(Actor, Call),
     /// The process with this number stands in a directory from now on, and the second path of its rename and link starts at
     /// another. Nothing is asked of its permissions.
     Enter {

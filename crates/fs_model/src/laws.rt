@@ -2,9 +2,11 @@
 ghost use Rattle.fs_cred.specs.Laws.{HasAnAnswer, HasOneAnswer, VerdictDecides};
 ghost use Rattle.fs_model.specs.Laws.{AccessKindsAgree, CountsFit, EffectsAnswerOtherwise, FindingRefuses, FindsAreThere, FirmRefusesOtherwise, FollowedAreNoLinks, FreeAreClear, NewDiskStands, NewImagesExist, NoneRefuses, NothingToDrop, NumbersAreCounts, ObeyingStands, OneFinding, OneNodeChanges, OpenStays, OtherRefusesOtherwise, PruningKeeps, RefusesLeast, RewritingKeeps, SameProcessStays, SomeImageStands, StandingObeys, StandingRests, StandingRestsOnReading, StandsForOne, StandsInVersion, StepsKeep, StoredKindsAgree, SyncingKeeps, TypesComeBack, WalksRefuseOtherwise};
 ghost use Rattle.fs_model.specs.Confinement.{Confinement, GoneIsRefused, StepsAreBy, StepsBy};
+ghost use Rattle.fs_model.specs.Outsiders.{AlikeToCredentials, ActorRunsConfined, ActorsConfined, ActorsKeepAlike};
 ghost use Rattle.fs_model.specs.Ranges.{IsSomeId, IsCall};
 ghost use Rattle.fs_model.specs.Reading.{ReadingKeeps, SyncKeeps};
 ghost use Rattle.fs_model.specs.Runs.{RunsAreRefusedAlike, RunsOfMoves, RunsOfWrites};
+ghost use Rattle.fs_model.specs.ActorLaws.{LinksAskAsBefore, ActorsCallAsProcesses, ActorsFollow};
 ghost use Rattle.posix_acl.specs.AccessList.{IsSomeAcl};
 
 use crate::call::Call;
@@ -206,6 +208,26 @@ pub fn unreadable_bytes_do_not_show()
     ensures gone { GoneIsRefused }
     ensures choices { StepsAreBy }
     ensures steps { StepsBy }
+{}
+
+/// An actor has no new power, but for where its paths start. Where a process with its credential and mask stands at both starts, and no
+/// path is empty, its call is refused, changes the tree and answers as the call of that process. What it finds by a path that is followed
+/// is no link, but where the call acts on the link at which it starts. And link(2) refuses the paths of processes as if it asked first
+/// whether they end in a name.
+pub fn actors_call_as_processes()
+    ensures calls { ActorsCallAsProcesses }
+    ensures follow { ActorsFollow }
+    ensures links { LinksAskAsBefore }
+{}
+
+/// What someone can't see into has no part in what actors with the same credential are answered, now or later, from whichever objects
+/// their paths start. Someone is a process, or who has nothing but a credential. What is alike to a process stays so where an actor with
+/// its credential calls, and is alike to the credential: with nothing open no more is seen.
+pub fn unreadable_bytes_do_not_show_to_actors()
+    ensures one { ActorsConfined }
+    ensures runs { ActorRunsConfined }
+    ensures keeps { ActorsKeepAlike }
+    ensures alike { AlikeToCredentials }
 {}
 
 /// A read of many bytes, up to a run of 32 moves, means reads of its parts, one after another, however it is parted: the same bytes

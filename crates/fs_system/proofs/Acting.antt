@@ -10,7 +10,7 @@ use Rattle.fs_layout.specs.Maps.{get, with_entry}
 use Rattle.fs_model.specs.declared.reply.Reply.{Reply}
 use Rattle.fs_model.specs.declared.reply.Reply.TheVariants.{Done, Pid, Space, Refused}
 use Rattle.fs_model.specs.declared.event.Event.{Event}
-use Rattle.fs_model.specs.declared.event.Event.TheVariants.{Call as Calls, Spawn, Exit, Enter, Stamp, Clock, Fsync, Sync, Statfs, Arm, Restart}
+use Rattle.fs_model.specs.declared.event.Event.TheVariants.{Call as Calls, CallAt, Spawn, Exit, Enter, Stamp, Clock, Fsync, Sync, Statfs, Arm, Restart}
 use Rattle.fs_model.specs.Trees.{Tree, free_inodes}
 use Rattle.fs_model.specs.Processes.{Process, ProcessTable, new_process, IsNewPid, descriptor, is_open}
 use Rattle.fs_model.specs.TreeChanges.{Same, swept}
@@ -117,6 +117,7 @@ flush_case : (P : Event → Type 0) → ((pid fd : ℕ) → P (Fsync pid fd)) �
 flush_case P one all (Fsync pid fd) asks = one pid fd
 flush_case P one all Sync asks = all
 flush_case P one all (Calls pid call) asks = absurd cc
+flush_case P one all (CallAt v call) asks = absurd cc
 flush_case P one all (Spawn cred) asks = absurd cc
 flush_case P one all (Exit pid) asks = absurd cc
 flush_case P one all (Enter pid directory second) asks = absurd cc

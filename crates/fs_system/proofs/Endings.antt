@@ -1,7 +1,7 @@
 -- What an event that was performed in a transaction is to the machine: one step.
 --     tree_then        the tree after it
 --     IsPerformed        nothing refuses the event, and the map holds the tree after it
---     call_performed, exit_performed        a call, and the end of a process
+--     performs_event, exit_performed        a call, and the end of a process
 --     done_state        the state after it
 --     done_steps, done_halts        it is a step, also where the commit fails
 --     refused_steps, exit_refused_steps        so is a refusal
@@ -20,8 +20,13 @@ use Rattle.fs_layout.specs.Maps.{get, without}
 use Rattle.fs_model.specs.declared.call.Call.{Call}
 use Rattle.fs_model.specs.declared.reply.Reply.{Reply}
 use Rattle.fs_model.specs.declared.reply.Reply.TheVariants.{Done, Refused}
+use Rattle.fs_cred.specs.Credentials.{IsCredential}
+use Rattle.fs_model.specs.declared.event.Actor.{Actor}
+use Rattle.fs_model.specs.Steps.{early_call_at, late_call_at, actor_scene, after_call_at, asks_memory, asks_in_call}
+use Rattle.fs_model.proofs.StepsOfActors.{actor_leaves}
+use Rattle.call_parts.specs.Callers.{Who, ByProcess, ByActor, HasCredential, event}
 use Rattle.fs_model.specs.declared.event.Event.{Event}
-use Rattle.fs_model.specs.declared.event.Event.TheVariants.{Call as Calls, Exit}
+use Rattle.fs_model.specs.declared.event.Event.TheVariants.{Call as Calls, CallAt, Exit}
 use Rattle.fs_model.specs.Trees.{Tree, Room, IsTree}
 use Rattle.fs_model.specs.Processes.{Process, ProcessTable}
 use Rattle.fs_model.specs.TreeChanges.{Change, Same, changed, touches, touched, swept}
@@ -91,8 +96,8 @@ pub record IsPerformed (p : Geometry) (map : SectorMap) (now : ProcessTable) (s 
   pub left : MayBeLeft s.room (changed s.tree change) now
   pub holds : HoldsAll p map (placed (tree_then s change now))
 
-pub call_performed : {p : Geometry} {time : ℕ} {map old_map : SectorMap} {now before : ProcessTable} {s : State} {pid : ℕ} {call : Call} {reply : Reply}
-    → IsStateOf p old_map before s → s.now ≡ time → IsCall call → IsDone p time map now s pid call reply → IsPerformed p map now s (Calls pid call) reply
+call_performed : {p : Geometry} {time : ℕ} {map old_map : SectorMap} {now before : ProcessTable} {s : State} {pid : ℕ} {call : Call} {reply : Reply}
+    → IsStateOf p old_map before s → s.now ≡ time → IsCall call → IsDone p time map now s (ByProcess pid) call reply → IsPerformed p map now s (Calls pid call) reply
 call_performed {p} {time} {map} {old_map} {now} {before} {s} {pid} {call} {reply} at told is_call d = record {
   machine = refl;
   unstable = refl;
@@ -117,6 +122,45 @@ call_performed {p} {time} {map} {old_map} {now} {before} {s} {pid} {call} {reply
 
     by_row : after_call s pid (row_of call) d.number (Some q) ≡ record { change = d.change; processes = now; reply = reply; now = s.now }
     by_row = sym (after_is s pid q call there (chosen d.number 0)) ∙ d.effect
+
+module _ (s : State) (v : Actor) (call : Call) where
+  actor_firm : firm_refusal s (CallAt v call) ≡ early_call_at v call (row_of call)
+  unfolding firm_refusal
+  actor_firm = refl
+
+  actor_late : other_refusal s (CallAt v call) ≡ late_call_at s v call (row_of call)
+  unfolding other_refusal
+  actor_late = refl
+
+  actor_after : (choice : Choice) → after s (CallAt v call) choice ≡ after_call_at s ((row_of call).effect (actor_scene s v (row_of call)) choice.ino)
+  unfolding after
+  actor_after choice = refl
+
+actor_performed : {p : Geometry} {time : ℕ} {map old_map : SectorMap} {now before : ProcessTable} {s : State} {v : Actor} {call : Call} {reply : Reply}
+    → IsStateOf p old_map before s → s.now ≡ time → IsCredential v.cred → IsCall call → IsDone p time map now s (ByActor v) call reply → IsPerformed p map now s (CallAt v call) reply
+actor_performed {p} {time} {map} {old_map} {now} {before} {s} {v} {call} {reply} at told valid is_call d = record {
+  machine = refl;
+  unstable = refl;
+  early = d.early;
+  late = d.late;
+  number = d.number;
+  change = d.change;
+  effect = λ free. actor_after s v call (chosen d.number free) ∙ by_row;
+  new_number = d.new_number;
+  new_pid = tt;
+  left = subst (λ (a : After). MayBeLeft s.room (changed s.tree a.change) a.processes) by_row
+      (actor_leaves s v call at.is_state at.up valid is_call (sym (actor_firm s v call) ∙ d.early) (sym (actor_late s v call) ∙ d.late) d.number
+      (subst (λ (a : After). HasNewNumber s a.change) (sym by_row) d.new_number));
+  holds = subst (λ k. HoldsAll p map (placed (touched k (touches s.room s.tree d.change) (swept (changed s.tree d.change) now)))) (sym told) d.holds;
+}
+  where
+    by_row : after_call_at s ((row_of call).effect (actor_scene s v (row_of call)) d.number) ≡ record { change = d.change; processes = now; reply = reply; now = s.now }
+    by_row = sym (actor_after s v call (chosen d.number 0)) ∙ d.effect
+
+pub performs_event : {p : Geometry} {time : ℕ} {map old_map : SectorMap} {now before : ProcessTable} {s : State} (who : Who) {call : Call} {reply : Reply}
+    → IsStateOf p old_map before s → s.now ≡ time → HasCredential who → IsCall call → IsDone p time map now s who call reply → IsPerformed p map now s (event who call) reply
+performs_event (ByProcess pid) at told valid is_call d = call_performed at told is_call d
+performs_event (ByActor actor) at told valid is_call d = actor_performed at told valid is_call d
 
 pub exit_performed : {p : Geometry} {map old_map : SectorMap} {now before : ProcessTable} {s : State} {pid : ℕ}
     → IsStateOf p old_map before s → IsExited p map now s pid → IsPerformed p map now s (Exit pid) Done
@@ -210,20 +254,29 @@ module _ {p : Geometry} {map old_map : SectorMap} {now before : ProcessTable} {s
 
 -- ---- where something did
 
-pub refused_steps : (old new : DiskState) (s : State) (pid : ℕ) (call : Call) (r : Refusal) → IsFalse s.halted → IsRefused old new s pid call r
-    → Step s (Calls pid call) (Refused r) s
-refused_steps old new s pid call r up (why.early is) = (refl, step.refuses_early up r is refl refl)
-refused_steps old new s pid call r up (why.late none is) = (refl, step.refuses_late up r none is refl refl)
-refused_steps old new s pid call r up (why.lacks_memory none asks is) = (refl, step.lacks_memory up none asks (ap (λ q. Refused q) is) refl)
-refused_steps old new s pid call r up (why.read_fails none failed is) = (refl, step.read_fails up none (ap (λ q. Refused q) is) refl)
+made_of : (who : Who) (call : Call) → (IsTrue (is_of_machine (event who call))) × (asks_memory (event who call) ≡ asks_in_call call)
+made_of (ByProcess pid) call = (refl, refl)
+made_of (ByActor v) call = (refl, refl)
+
+-- a call makes nothing stable
+pub call_unstable : (who : Who) (call : Call) (r : Reply) → makes_stable (event who call) r ≡ false
+call_unstable (ByProcess pid) call r = refl
+call_unstable (ByActor actor) call r = refl
+
+pub refused_steps : (old new : DiskState) (s : State) (who : Who) (call : Call) (r : Refusal) → IsFalse s.halted → IsRefused old new s who call r
+    → Step s (event who call) (Refused r) s
+refused_steps old new s who call r up (why.early is) = ((made_of who call).0, step.refuses_early up r is refl refl)
+refused_steps old new s who call r up (why.late none is) = ((made_of who call).0, step.refuses_late up r none is refl refl)
+refused_steps old new s who call r up (why.lacks_memory none asks is) = ((made_of who call).0, step.lacks_memory up none ((made_of who call).1 ∙ asks) (ap (λ q. Refused q) is) refl)
+refused_steps old new s who call r up (why.read_fails none failed is) = ((made_of who call).0, step.read_fails up none (ap (λ q. Refused q) is) refl)
 
 -- no refusal is EIO but that of a read that fails
-pub why_failed : (old new : DiskState) (s : State) (pid : ℕ) (call : Call) (r : Refusal) → IsRefused old new s pid call r → IsTrue (is_io_error (Refused r))
+pub why_failed : (old new : DiskState) (s : State) (who : Who) (call : Call) (r : Refusal) → IsRefused old new s who call r → IsTrue (is_io_error (Refused r))
     → HasFailed old new
-why_failed old new s pid call r (why.early is) io = absurd (let c = sym (firm_spares_reply s (Calls pid call) r is) ∙ io in cc)
-why_failed old new s pid call r (why.late none is) io = absurd (let c = sym (other_spares_reply s (Calls pid call) r is) ∙ io in cc)
-why_failed old new s pid call r (why.lacks_memory none asks is) io = absurd (let c : is_io_error (Refused r) ≡ false = ap (λ q. is_io_error (Refused q)) is in cc)
-why_failed old new s pid call r (why.read_fails none failed is) io = failed
+why_failed old new s who call r (why.early is) io = absurd (let c = sym (firm_spares_reply s (event who call) r is) ∙ io in cc)
+why_failed old new s who call r (why.late none is) io = absurd (let c = sym (other_spares_reply s (event who call) r is) ∙ io in cc)
+why_failed old new s who call r (why.lacks_memory none asks is) io = absurd (let c : is_io_error (Refused r) ≡ false = ap (λ q. is_io_error (Refused q)) is in cc)
+why_failed old new s who call r (why.read_fails none failed is) io = failed
 
 -- so it is with the end of a process
 pub exit_refused_steps : (old new : DiskState) (s : State) (pid : ℕ) (r : Refusal) → IsFalse s.halted → IsNotExited old new s pid r

@@ -18,3 +18,4 @@ pub mod Soundness
 pub mod Stamped
 pub mod StampedNodes
 pub mod Sweeps
+pub mod CalledAt

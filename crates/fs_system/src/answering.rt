@@ -67,6 +67,7 @@ impl<D: Disk + Drop> Fs<D> {
             Event::Spawn(cred) => spawned(self.spawn_copy(cred)),
             Event::Exit(pid) => finished(self.exit(*pid)),
             Event::Call(pid, call) => self.call(*pid, call),
+            Event::CallAt(actor, call) => self.call_at(actor, call),
             Event::Enter {
                 pid,
                 dir_ino,

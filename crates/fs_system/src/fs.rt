@@ -7,7 +7,7 @@ ghost use Rattle.redo_journal.specs.States.{IsIdle};
 ghost use Rattle.sector_txn.specs.Stores.{present};
 ghost use Rattle.fs_model.specs.States.{State};
 ghost use Rattle.fs_model.specs.declared.event.Event.{Event};
-ghost use Rattle.fs_model.specs.declared.event.Event.TheVariants.{Spawn, Exit, Call as Calls, Enter, Stamp, Clock, Fsync, Sync, Statfs};
+ghost use Rattle.fs_model.specs.declared.event.Event.TheVariants.{Spawn, Exit, Call as Calls, CallAt, Enter, Stamp, Clock, Fsync, Sync, Statfs};
 ghost use Rattle.fs_system.specs.Playing.{HasDisk};
 ghost use Rattle.fs_system.specs.Mounts.{Mounts, FailsToMount, IsNotMounted};
 ghost use Rattle.fs_system.specs.Mounting.{StandsAsBefore, disk_mounted, disk_of_store, is_halted, LeavesHalted};
@@ -23,11 +23,12 @@ use crate::counted::CountedStore;
 use crate::faults::MountFault;
 use crate::stored::{count_space, enter_kept, exit_kept, failed, perform_kept, stamp_kept};
 use crate::sweeping::sweep;
+use call_parts::By;
 use free_counts::FreeCounts;
 use fs_check::check;
 use fs_cred::{Cred, Errno};
 use fs_layout::{Geometry, Super};
-use fs_model::{Call, Reply, RestartFault, Stamps};
+use fs_model::{Actor, Call, Reply, RestartFault, Stamps};
 use open_files::Procs;
 use redo_journal::{Journal, OpenFault};
 use sector_disk::{CrashDisk, Disk, DiskFault};
@@ -342,7 +343,32 @@ impl<D: Disk + Drop> Fs<D> {
             self.geometry,
             self.time,
             &mut self.procs,
-            pid,
+            By::Process(pid),
+            call,
+        );
+        self.base.put(base);
+        reply
+    }
+
+    /// What an actor asks for: someone who is no process, from the objects at which its paths start. EBADF: processes alone make such a
+    /// call.
+    ///
+    /// After a read that fails nothing has changed, and the call may be made again.
+    pub fn call_at(&mut self, actor: &Actor, call: &Call) -> Reply
+        ensures does { Happens D.state self.old self.new (CallAt actor.now call.now) result }
+        ensures halted { LeavesHalted self.old self.new }
+    {
+        if self.is_halted() {
+            return failed(Errno::EIO);
+        }
+        let store = self.base.take();
+        let (reply, base) = perform_kept(
+            self.alloc,
+            store,
+            self.geometry,
+            self.time,
+            &mut self.procs,
+            By::Actor(actor),
             call,
         );
         self.base.put(base);

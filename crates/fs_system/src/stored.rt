@@ -1,9 +1,10 @@
 //! What events do to a store.
 
 ghost use Rattle.std.specs.Prelude.{◌≡◌};
+ghost use Rattle.call_parts.specs.Callers.{event, who_of};
 ghost use Rattle.sector_txn.specs.Stores.{present, disk_after};
 ghost use Rattle.fs_model.specs.States.{State};
-ghost use Rattle.fs_model.specs.declared.event.Event.TheVariants.{Call as Calls, Enter, Exit, Stamp, Statfs};
+ghost use Rattle.fs_model.specs.declared.event.Event.TheVariants.{Enter, Exit, Stamp, Statfs};
 ghost use Rattle.fs_system.specs.declared.base.Base.TheVariants.{Running};
 ghost use Rattle.fs_system.specs.Running.{IsRunning};
 ghost use Rattle.fs_system.specs.Seen.{IsOn, base_left};
@@ -12,10 +13,10 @@ ghost use Rattle.fs_system.specs.Replies.{finished, counted, stamped_reply};
 ghost use Rattle.fs_model.specs.declared.reply.Reply.TheVariants.{Refused};
 ghost use Rattle.fs_cred.specs.declared.refusal.Refusal.TheVariants.{Failed};
 
-use crate::calls::perform;
+use crate::calls::{credential_is_in_range, perform};
 use crate::counted::{CountedStore, count_both, drop_delta, keep};
 use crate::stamping::{stamp, times_are_in_range};
-use call_parts::Asker;
+use call_parts::By;
 use file_calls::exit;
 use fs_cred::{Errno, Refusal};
 use fs_layout::Geometry;
@@ -40,23 +41,18 @@ pub(crate) fn perform_kept<D: Disk>(
     geometry: Geometry,
     now: u64,
     procs: &mut Procs,
-    pid: usize,
+    by: By,
     call: &Call,
 ) -> (Reply, Result<CountedStore<D>, Broken<D>>)
     requires running { (s : State) × IsRunning (D.state store.disk).size geometry (present D.state store) procs.old s }
     ensures does { (s : State) → IsRunning (D.state store.disk).size geometry (present D.state store) procs.old s → s.now ≡ now
         → (t : State) × IsOn D.state geometry s.now procs.new (base_left result.1) t
-        × Does (D.state store.disk) (D.state (disk_after result.1)) s (Calls pid call.now) result.0 t }
+        × Does (D.state store.disk) (D.state (disk_after result.1)) s (event (who_of by.entry) call.now) result.0 t }
 {
     call_is_in_range(call);
-    let asker = Asker {
-        alloc,
-        geometry,
-        time: now,
-        pid,
-    };
+    credential_is_in_range(by);
     let (mut txn, known) = store.begin();
-    match perform(&mut txn, asker, procs, call) {
+    match perform(&mut txn, alloc, geometry, now, by, procs, call) {
         Ok(reply) => match keep(txn, known) {
             Ok(store) => (reply, Ok(store)),
             Err(broken) => (failed(Errno::EIO), Err(broken)),

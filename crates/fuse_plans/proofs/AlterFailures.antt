@@ -9,7 +9,7 @@ use Rattle.fs_model.specs.Limits.{root}
 use Rattle.fs_model.specs.declared.call.AclType.{AclType}
 use Rattle.fs_model.specs.declared.call.Call.{Call}
 use Rattle.fs_model.specs.declared.event.Event.{Event}
-use Rattle.fs_model.specs.declared.event.Event.TheVariants.{Spawn, Exit, Call as Calls, Enter, Stamp, Clock, Fsync, Sync, Statfs, Arm, Restart}
+use Rattle.fs_model.specs.declared.event.Event.TheVariants.{Spawn, Exit, Call as Calls, CallAt, Enter, Stamp, Clock, Fsync, Sync, Statfs, Arm, Restart}
 use Rattle.fs_model.specs.declared.reply.Reply.{Reply}
 use Rattle.fuse_protocol.specs.declared.operation.Operation.{Operation}
 use Rattle.fuse_protocol.specs.declared.operation.Operation.TheVariants.{Unlink, RmDir, Rename, Open, SetXAttr, RemoveXAttr}
@@ -63,6 +63,7 @@ changes_none (alteration ∷ others) told = absurd (told.0)
 -- what may be asked for nobody changes nothing
 quiet-event : (e : Event) (reply : Reply) → MayBeAsked None e → HasChanged e reply → ⊥
 quiet-event (Calls pid call) reply may changed = changed.says (changes_none (alterations_by pid call) may)
+quiet-event (CallAt actor call) reply may changed = changed.says (changes_none (alterations_by 0 call) may)
 quiet-event (Spawn cred) reply may changed = changed.says refl
 quiet-event (Exit pid) reply may changed = changed.says refl
 quiet-event (Enter pid directory second) reply may changed = changed.says refl

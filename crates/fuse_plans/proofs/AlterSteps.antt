@@ -10,7 +10,7 @@ use Rattle.fs_model.specs.declared.call.Call.{Call}
 use Rattle.fs_model.specs.declared.call.Call.TheVariants.{Open, Read, Write, Lseek, Close, Fstat, Stat, Lstat, Access, Truncate, Ftruncate, Chmod, Chown, GetAcl, SetAcl, Readdir, Mkdir, Rmdir, Link as LinkCall, Symlink, Readlink, Unlink, Rename, Chdir, Umask}
 use Rattle.fs_model.specs.declared.call.Flags.{Flags}
 use Rattle.fs_model.specs.declared.event.Event.{Event}
-use Rattle.fs_model.specs.declared.event.Event.TheVariants.{Spawn, Exit, Call as Calls, Enter, Stamp, Clock, Fsync, Sync, Statfs, Arm, Restart}
+use Rattle.fs_model.specs.declared.event.Event.TheVariants.{Spawn, Exit, Call as Calls, CallAt, Enter, Stamp, Clock, Fsync, Sync, Statfs, Arm, Restart}
 use Rattle.fs_model.specs.declared.reply.Reply.{Reply}
 use Rattle.fs_model.specs.AttributeCalls.{with_mode, owned, with_set_acl}
 use Rattle.fs_model.specs.declared.reply.Stamps.{Stamps}
@@ -24,9 +24,10 @@ use Rattle.fs_model.specs.Rows.{row_of}
 use Rattle.fs_layout.proofs.FirstEntries.{left}
 use Rattle.fs_model.specs.Scenes.{Scene, is_found, found_ino, node_found, body_found}
 use Rattle.fs_model.specs.States.{State}
-use Rattle.fs_model.specs.Steps.{Choice, with_stamps, scene_of, late_refusal, demand_of, other_refusal, after_call, after_enter, after, Answers, is_halted, refuses_early, refuses_late, acts, lacks_memory, read_fails, write_fails}
+use Rattle.fs_model.specs.Steps.{Choice, with_stamps, scene_of, actor_scene, late_refusal, demand_of, other_refusal, after_call, after_enter, after, Answers, is_halted, refuses_early, refuses_late, acts, lacks_memory, read_fails, write_fails}
 use Rattle.fs_model.specs.TreeChanges.{Same, Rewrite, Make, MoveName, changed, swept, touches, touched}
 use Rattle.fs_model.proofs.StepsDemands.{AreMet, demands_met, unrefused}
+use Rattle.fs_model.proofs.StepsOfActors.{actor_demands}
 use Rattle.fuse_plans.specs.Alterations.{Alteration, resizes, adds_name, sets_owner, sets_group, sets_times, where_so, alterations_by, alterations_in}
 use Rattle.fuse_plans.specs.AlteredTrees.{says_one, KeepsUnsaid, AltersOnly, LeavesUnsaid, stays, alters, StepsChangeWhatIsSaid}
 
@@ -130,48 +131,48 @@ opens f mode path s number met = choose (is_found s.first) (f.trunc && f.write) 
 
 -- ---- each call
 
-says : (s : State) (p : Process) (pid : ℕ) (call : Call) (number : ℕ) → late_refusal s p (row_of call) ≡ None
-    → AltersOnly (alterations_by pid call) s.tree ((row_of call).effect (scene_of s p (row_of call)) number).change
+says : (c : Scene) (pid : ℕ) (call : Call) (number : ℕ) → AreMet ((row_of call).demands c)
+    → AltersOnly (alterations_by pid call) c.state.tree ((row_of call).effect c number).change
 unfolding row_of
-says s p pid (Open path flags mode) number none = opens flags mode path (scene_of s p (row_of (Open path flags mode))) number (demands_met s p (row_of (Open path flags mode)) none)
-says s p pid (Read fd len) number none = tt
-says s p pid (Write fd []) number none = tt
-says s p pid (Write fd (b ∷ bytes)) number none = keeps_bytes _ _ _ _ _ _ refl
-says s p pid (Lseek fd whence by) number none = tt
-says s p pid (Close fd) number none = tt
-says s p pid (Fstat fd) number none = tt
-says s p pid (Stat path) number none = tt
-says s p pid (Lstat path) number none = tt
-says s p pid (Access path want) number none = tt
-says s p pid (Truncate path size) number none = keeps_bytes _ _ _ _ _ _ refl
-says s p pid (Ftruncate fd size) number none = keeps_bytes _ _ _ _ _ _ refl
-says s p pid (Chmod path mode) number none = keeps_mode _ _ _ _ p.cred mode _ refl
-says s p pid (Chown path owner group) number none = keeps_owners owner group _
-says s p pid (GetAcl path which) number none = tt
-says s p pid (SetAcl path AccessAcl acl) number none = keeps_access _ _ _ _ acl _ refl
-says s p pid (SetAcl path Default acl) number none = keeps_default _ _ _ _ acl _ refl
-says s p pid (Readdir fd) number none = tt
-says s p pid (Mkdir path mode) number none = refl
-says s p pid (Rmdir path) number none = refl
-says s p pid (LinkCall old new) number none = refl
-says s p pid (Symlink target path) number none = refl
-says s p pid (Readlink path) number none = tt
-says s p pid (Unlink path) number none = refl
-says s p pid (Rename old new) number none = moves (is_same (scene_of s p (row_of (Rename old new)))) _ _ _ _
+says c pid (Open path flags mode) number met = opens flags mode path c number met
+says c pid (Read fd len) number met = tt
+says c pid (Write fd []) number met = tt
+says c pid (Write fd (b ∷ bytes)) number met = keeps_bytes _ _ _ _ _ _ refl
+says c pid (Lseek fd whence by) number met = tt
+says c pid (Close fd) number met = tt
+says c pid (Fstat fd) number met = tt
+says c pid (Stat path) number met = tt
+says c pid (Lstat path) number met = tt
+says c pid (Access path want) number met = tt
+says c pid (Truncate path size) number met = keeps_bytes _ _ _ _ _ _ refl
+says c pid (Ftruncate fd size) number met = keeps_bytes _ _ _ _ _ _ refl
+says c pid (Chmod path mode) number met = keeps_mode _ _ _ _ c.process.cred mode _ refl
+says c pid (Chown path owner group) number met = keeps_owners owner group _
+says c pid (GetAcl path which) number met = tt
+says c pid (SetAcl path AccessAcl acl) number met = keeps_access _ _ _ _ acl _ refl
+says c pid (SetAcl path Default acl) number met = keeps_default _ _ _ _ acl _ refl
+says c pid (Readdir fd) number met = tt
+says c pid (Mkdir path mode) number met = refl
+says c pid (Rmdir path) number met = refl
+says c pid (LinkCall old new) number met = refl
+says c pid (Symlink target path) number met = refl
+says c pid (Readlink path) number met = tt
+says c pid (Unlink path) number met = refl
+says c pid (Rename old new) number met = moves (is_same c) _ _ _ _
   where
     moves : (same : Bool) (directory : ℕ) (name : List ℕ) (to_directory : ℕ) (to_name : List ℕ)
-        → AltersOnly (alterations_by pid (Rename old new)) s.tree (if same then Same else MoveName directory name to_directory to_name)
+        → AltersOnly (alterations_by pid (Rename old new)) c.state.tree (if same then Same else MoveName directory name to_directory to_name)
     moves true directory name to_directory to_name = tt
     moves false directory name to_directory to_name = refl
-says s p pid (Chdir path) number none = tt
-says s p pid (Umask mask) number none = tt
+says c pid (Chdir path) number met = tt
+says c pid (Umask mask) number met = tt
 
 -- ---- each event
 
 says_call : (s : State) (pid : ℕ) (call : Call) (number : ℕ) (p : Option Process) → demand_of (λ q. late_refusal s q (row_of call)) p ≡ None
     → AltersOnly (alterations_by pid call) s.tree (after_call s pid (row_of call) number p).change
 says_call s pid call number None none = tt
-says_call s pid call number (Some p) none = says s p pid call number none
+says_call s pid call number (Some p) none = says (scene_of s p (row_of call)) pid call number (demands_met s p (row_of call) none)
 
 says_enter : (s : State) (pid directory second : ℕ) (p : Option Process) → AltersOnly [] s.tree (after_enter s pid directory second p).change
 says_enter s pid directory second None = tt
@@ -182,6 +183,7 @@ unfolding other_refusal after
 says_event s (Spawn cred) choice none = tt
 says_event s (Exit pid) choice none = tt
 says_event s (Calls pid call) choice none = says_call s pid call choice.ino (get nat_cmp s.processes pid) none
+says_event s (CallAt actor call) choice none = says (actor_scene s actor (row_of call)) 0 call choice.ino (actor_demands s actor call (row_of call) none)
 says_event s (Enter pid directory second) choice none = says_enter s pid directory second (get nat_cmp s.processes pid)
 says_event s (Stamp n atime mtime ctime) choice none = keeps_times n s.room.keeps_times atime mtime ctime (the_node s.tree n)
 says_event s (Clock now) choice none = tt

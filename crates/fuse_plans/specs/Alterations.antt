@@ -10,7 +10,7 @@ use Rattle.fs_model.specs.declared.call.AclType.{AclType}
 use Rattle.fs_model.specs.declared.call.Call.{Call}
 use Rattle.fs_model.specs.declared.call.Call.TheVariants.{Open as OpenCall, Write as WriteCall, Truncate, Ftruncate, Chmod, Chown, SetAcl, Mkdir, Rmdir, Link as LinkCall, Symlink, Unlink as UnlinkCall, Rename as RenameCall}
 use Rattle.fs_model.specs.declared.event.Event.{Event}
-use Rattle.fs_model.specs.declared.event.Event.TheVariants.{Call as Calls, Stamp, Arm, Restart}
+use Rattle.fs_model.specs.declared.event.Event.TheVariants.{Call as Calls, CallAt, Stamp, Arm, Restart}
 use Rattle.fs_model.specs.declared.reply.Reply.{Reply}
 use Rattle.fuse_protocol.specs.declared.operation.Operation.{Operation}
 use Rattle.fuse_protocol.specs.declared.operation.Operation.TheVariants.{SetAttr, SymLink, MkNod, MkDir, Unlink, RmDir, Rename, Link, Open, Write, SetXAttr, RemoveXAttr, Create}
@@ -128,12 +128,15 @@ changes_at_once operation = false
 -- all that an event may change
 abbrev pub alterations_in : Event → List Alteration
 alterations_in (Calls pid call) = alterations_by pid call
+-- an actor has no descriptors
+alterations_in (CallAt actor call) = alterations_by 0 call
 alterations_in (Stamp n atime mtime ctime) = where_so (sets_some atime mtime ctime) sets_times
 alterations_in event = []
 
 -- No event changes more than the request says; nor does a disk stop, which may change what the kernel was told.
 abbrev pub MayBeAsked : Option Operation → Event → Type 0
 MayBeAsked operation (Calls pid call) = AreTold operation (alterations_by pid call)
+MayBeAsked operation (CallAt actor call) = AreTold operation (alterations_by 0 call)
 MayBeAsked operation (Stamp n atime mtime ctime) = AreTold operation (where_so (sets_some atime mtime ctime) sets_times)
 MayBeAsked operation (Arm after) = ⊥
 MayBeAsked operation (Restart choice arm) = ⊥

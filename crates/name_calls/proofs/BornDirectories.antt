@@ -3,6 +3,9 @@
 --     acls_few, directory_taken        an inode was taken for it
 --     mkdir_by_path, directory_name_asked, is_new_name, directory_changes        mkdir
 --     directory_may_touch, directory_was_made        and its end
+use Rattle.std.specs.Prelude.{false}
+use Rattle.call_parts.specs.Callers.{Who}
+use Rattle.call_parts.proofs.Starts.{may_make}
 use Rattle.std.specs.Prelude.{◌≡◌, ℕ, ◌+◌, ◌-◌, ◌/◌, ◌%◌, ◌^◌, ◌<◌, ◌≤◌, ◌==◌, nat_eq, nat_le, ◌&&◌, cond, Bool, true, false, List, [], ◌∷◌, Option, None, IsTrue, Ok}
 use Rattle.std.proofs.Common.{refl, sym, ap, arith, ◌∙◌}
 use Rattle.std.proofs.lemmas.Bool.Decides.{nat_tests}
@@ -95,12 +98,13 @@ unfolding row_of
 mkdir_is path mode = refl
 
 -- the mode of mkdir is checked
-pub mkdir_by_path : (path : List ℕ) (mode : ℕ) (checks : Checked) → checks ≡ checked (check_of_mode mode) → WalksPath (Mkdir path mode) checks Parent path mkdir_demands (mkdir_effect mode)
-mkdir_by_path path mode checks are = record {
+pub mkdir_by_path : {who : Who} → (path : List ℕ) (mode : ℕ) (checks : Checked) → checks ≡ checked (check_of_mode mode) → WalksPath who (Mkdir path mode) checks false Parent path mkdir_demands (mkdir_effect mode)
+mkdir_by_path {who} path mode checks are = record {
   arguments = check_of_mode mode ∷ [];
   row = mkdir_is path mode;
   are_checked = are ∙ ap checked (sym (or_else-none (check_of_mode mode)));
   asks = refl;
+  may = may_make who _ refl refl;
 }
 
 -- asked of the name
@@ -113,8 +117,8 @@ is_new_name f is =
     let met = (met_ok {A = Unit {0}} (must_be_new f) tt tt is).0 in
     (or_else-none (must_be_new f) ∙ met, is_new_if f met)
 
-module _ {p : Geometry} {map : SectorMap} {processes : ProcessTable} {s : State} (at : IsStateOf p map processes s) (q : Process) (f : Found) {pid : ℕ} {path : List ℕ}
-    (has : HasFound s pid q Parent path f) (bytes : IsBytes path) (is : refused_or {A = Unit {0}} (must_be_new f) (Ok tt) ≡ Ok tt) where
+module _ {p : Geometry} {map : SectorMap} {processes : ProcessTable} {s : State} (at : IsStateOf p map processes s) (q : Process) (f : Found) {who : Who} {path : List ℕ}
+    (has : HasFound s who q false Parent path f) (bytes : IsBytes path) (is : refused_or {A = Unit {0}} (must_be_new f) (Ok tt) ≡ Ok tt) where
   pub directory_changes : (mode : ℕ) (new : SectorMap) (n : ℕ) → first_of (make_asked p map q.cred s.tree f.dir_ino (f.step - 1)) ≡ None
       → MakesNode p f.dir_ino f.name n (born_directory q.cred q.umask mode (the_node s.tree f.dir_ino)) map new
       → IsChange p new processes s q (mkdir_demands (scene_at s q f)) (mkdir_effect mode (scene_at s q f)) Done ((f.dir_ino, Modified) ∷ (n, Born) ∷ [])
@@ -126,14 +130,14 @@ module _ {p : Geometry} {map : SectorMap} {processes : ProcessTable} {s : State}
       new made (mkdir_demands (scene_at s q f)) (space_met at q f (must_be_new f ∷ []) x.0 allows) allows
 
 -- the directory was made
-module _ {p : Geometry} {old mid last : TxnState} {processes : ProcessTable} {pid : ℕ} {checks : Checked} {path : List ℕ} {q : Process} {f : Found} {n : ℕ} (mode : ℕ)
-    (are : checks ≡ checked (check_of_mode mode)) (same : IsUnchanged old mid) (w : HasWalked p mid processes pid checks Parent path q f)
+module _ {p : Geometry} {old mid last : TxnState} {processes : ProcessTable} {who : Who} {checks : Checked} {path : List ℕ} {q : Process} {f : Found} {n : ℕ} (mode : ℕ)
+    (are : checks ≡ checked (check_of_mode mode)) (same : IsUnchanged old mid) (w : HasWalked p mid processes who checks false Parent path q f)
     (is : refused_or {A = Unit {0}} (must_be_new f) (Ok tt) ≡ Ok tt)
     (made : Makes p q.cred f (λ (t : Tree). born_directory q.cred q.umask mode (the_node t f.dir_ino)) mid last (Ok n)) where
   pub directory_may_touch : MayMoveTimes p ((f.dir_ino, Modified) ∷ (n, Born) ∷ []) last
   directory_may_touch = made_may_touch directory_name_asked (mkdir_by_path path mode checks are) same w (is_new_name f is).1 last n (λ (t : Tree). born_directory q.cred q.umask mode (the_node t f.dir_ino)) made.each
       (λ s has at. directory_changes at q f has w.bytes is mode last.sectors n) made.store 7 (omega arith) made.taken
 
-  pub directory_was_made : {time : ℕ} {new : TxnState} → MovesTimes p time ((f.dir_ino, Modified) ∷ (n, Born) ∷ []) last new → Performs p time pid (Mkdir path mode) old new processes processes (Ok Done)
+  pub directory_was_made : {time : ℕ} {new : TxnState} → MovesTimes p time ((f.dir_ino, Modified) ∷ (n, Born) ∷ []) last new → Performs p time who (Mkdir path mode) old new processes processes (Ok Done)
   directory_was_made moved = made_done directory_name_asked (mkdir_by_path path mode checks are) same w (is_new_name f is).1 last n (λ (t : Tree). born_directory q.cred q.umask mode (the_node t f.dir_ino)) made.each
       (λ s has at. directory_changes at q f has w.bytes is mode last.sectors n) made.store moved

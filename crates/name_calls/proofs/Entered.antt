@@ -1,6 +1,8 @@
 -- What chdir asks of what it has found, as its inode says it, and what it leaves of the process.
 --     chdir_by_path        its row
 --     absent_refuses, other_kind_refuses, search_held, search_refuses, searchable, entered        what is asked
+use Rattle.std.specs.Prelude.{ℕ, false}
+use Rattle.call_parts.specs.Callers.{ByProcess}
 use Rattle.std.specs.Prelude.{◌≡◌, ℕ, Bool, true, false, not, if◌then◌else◌, List, [], ◌∷◌, None, Some, Ok, Err}
 use Rattle.std.proofs.Common.{refl, sym, ap, subst, ◌∙◌}
 use Rattle.sector_disk.specs.Disk.{DiskState}
@@ -47,8 +49,8 @@ chdir_is : (path : List ℕ) → row_of (Chdir path) ≡ chdir_row path
 unfolding row_of
 chdir_is path = refl
 
-pub chdir_by_path : (path : List ℕ) → WalksPath (Chdir path) (Ok tt) Follow path chdir_demands chdir_effect
-chdir_by_path path = record { arguments = []; row = chdir_is path; are_checked = refl; asks = refl }
+pub chdir_by_path : {pid : ℕ} → (path : List ℕ) → WalksPath (ByProcess pid) (Chdir path) (Ok tt) false Follow path chdir_demands chdir_effect
+chdir_by_path path = record { arguments = []; row = chdir_is path; are_checked = refl; asks = refl; may = tt }
 
 -- ---- what is asked
 

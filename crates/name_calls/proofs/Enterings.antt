@@ -1,5 +1,4 @@
 -- What is asked of where a process is put, as the inodes say it, and what it leaves.
---     type_held        the type of what stands at a number
 --     asked_of_both        what is asked of two numbers
 --     entered, entering_refused        the process is there
 --     not_put, absent_process        it is refused
@@ -33,31 +32,9 @@ use Rattle.path_walk.proofs.HeldNodes.{number_below, is_there, held_node}
 use Rattle.call_parts.specs.Performing.{IsStateOf}
 use Rattle.call_parts.proofs.ByDescriptor.{changed_there}
 use Rattle.call_parts.proofs.Calling.{same_process}
-use Rattle.name_calls.specs.Enters.{type_in, both_directories, IsAskedOfBoth, IsEntered, IsNotEntered, Enters}
+use Rattle.call_parts.specs.Types.{type_in}
+use Rattle.name_calls.specs.Enters.{both_directories, IsAskedOfBoth, IsEntered, IsNotEntered, Enters}
 use Rattle.name_calls.specs.Enters as not_entered
-
--- ---- one number
-
-module _ {p : Geometry} {map : SectorMap} {t : Tree} (h : HoldsTree p map t) (n : ℕ) where
-  -- of the table
-  pub type_held : n < p.inodes → type_of_kind (inode_at p map n).kind ≡ type_in t n
-  type_held below = go (node_at t n) refl
-    where
-      go : (o : Option Node) → node_at t n ≡ o → type_of_kind (inode_at p map n).kind ≡ option_map (λ (node : Node). type_of node.body) o
-      go None at =
-          let free = subst (λ (o : Option Node). HoldsPlaced p map n (option_map (λ m. record { node = m; names = names_of t n; parent = parent t n }) o)) at (h.holds.nodes n below) in
-          ap (λ (v : Inode). type_of_kind v.kind) free
-      go (Some node) at =
-          ap type_of_kind (stored_kinds_agree p.version map (inode_at p map n) (record { node = node; names = names_of t n; parent = parent t n }) (held_node h n node at))
-          ∙ types_come_back (type_of node.body)
-
-  -- past it nothing stands
-  pub type_past : p.inodes ≤ n → None ≡ type_in t n
-  type_past past = go (node_at t n) refl
-    where
-      go : (o : Option Node) → node_at t n ≡ o → None ≡ option_map (λ (node : Node). type_of node.body) o
-      go None at = refl
-      go (Some node) at = absurd (let below = number_below h n (is_there t n node at) in omega (arith, below, past))
 
 -- ---- both numbers
 

@@ -1,10 +1,10 @@
 -- What link asks.
 --     place_denied, place_many, place_full, place_met        all of the directory
---     node_found, kind_says, source_special, source_absent, source_other, source_all_met, source_inode        what is to get the name
+--     node_found, kind_says, source_absent, source_other, source_all_met, source_inode        what is to get the name
 --     source_refuses, name_refuses, place_refuses, link_asked_met        the whole
 use Rattle.std.specs.Prelude.{◌≡◌, ℕ, ◌-◌, nat_lt, nat_le, Bool, not, ◌&&◌, List, [], ◌∷◌, ◌++◌, length, Option, None, Some, is_some, IsFalse, Ok}
 use Rattle.std.proofs.Common.{sym, ap, ◌∙◌}
-use Rattle.fs_cred.specs.declared.errno.Errno.TheVariants.{EPERM, ENOTDIR, EMLINK, ENOSPC}
+use Rattle.fs_cred.specs.declared.errno.Errno.TheVariants.{EPERM, ENOTDIR, ENOSPC}
 use Rattle.fs_cred.specs.declared.refusal.Refusal.{Refusal}
 use Rattle.fs_cred.specs.Credentials.{Credential}
 use Rattle.fs_layout.specs.declared.inode.Inode.{Inode}
@@ -16,7 +16,7 @@ use Rattle.fs_model.specs.declared.walk.Found.{Found}
 use Rattle.fs_model.specs.Births.{the_node}
 use Rattle.fs_model.specs.Demands.{Demand, refuse, first_of, permission_on, write_and_search}
 use Rattle.fs_model.specs.Limits.{least_free}
-use Rattle.fs_model.specs.NameCalls.{link_demands}
+use Rattle.fs_model.specs.NameCalls.{link_demands, link_count_demand}
 use Rattle.fs_model.specs.Nodes.{Node, is_directory, names_of_body}
 use Rattle.fs_model.specs.Processes.{Process, ProcessTable}
 use Rattle.fs_model.specs.Rules.{is_directory_kind}
@@ -47,22 +47,22 @@ module _ (p : Geometry) (map : SectorMap) (cred : Credential) (t : Tree) (dir_in
   allowed = permission_on cred t dir_ino write_and_search 2 step
 
   abbrev many : Demand
-  many = refuse EMLINK (nat_le (max_inode_names p.version) names)
+  many = link_count_demand (max_inode_names p.version) names
 
   pub place_denied : Refuses (permission_on cred t dir_ino write_and_search 2 step) (first_of (place_asked p map cred t dir_ino step names))
   place_denied = refuses_first allowed (many ∷ room_asked p map t dir_ino)
 
   module _ (granted : permission_on cred t dir_ino write_and_search 2 step ≡ None) where
-    pub place_many : Refuses (refuse EMLINK (nat_le (max_inode_names p.version) names)) (first_of (place_asked p map cred t dir_ino step names))
+    pub place_many : Refuses (link_count_demand (max_inode_names p.version) names) (first_of (place_asked p map cred t dir_ino step names))
     place_many = refuses_next allowed (many ∷ room_asked p map t dir_ino) granted (refuses_first many (room_asked p map t dir_ino))
 
-    pub place_full : checked (refuse EMLINK (nat_le (max_inode_names p.version) names)) ≡ Ok tt
+    pub place_full : checked (link_count_demand (max_inode_names p.version) names) ≡ Ok tt
         → Refuses (first_of (room_asked p map t dir_ino)) (first_of (place_asked p map cred t dir_ino step names))
     place_full few =
         refuses_next allowed (many ∷ room_asked p map t dir_ino) granted
         (refuses_next many (room_asked p map t dir_ino) (demand_met many few) (λ (e : Refusal) is. is))
 
-  pub place_met : permission_on cred t dir_ino write_and_search 2 step ≡ None → checked (refuse EMLINK (nat_le (max_inode_names p.version) names)) ≡ Ok tt
+  pub place_met : permission_on cred t dir_ino write_and_search 2 step ≡ None → checked (link_count_demand (max_inode_names p.version) names) ≡ Ok tt
       → checked (first_of (room_asked p map t dir_ino)) ≡ Ok tt → first_of (place_asked p map cred t dir_ino step names) ≡ None
   place_met granted few free =
       both_met allowed (many ∷ room_asked p map t dir_ino) granted
@@ -88,41 +88,31 @@ module _ {p : Geometry} {map : SectorMap} {t : Tree} {f : Found} {n : ℕ} {v : 
       ∷ refuse EPERM (is_some o && is_directory (the_node t (found_ino f)).body) ∷ []) (sym k.some)
 
 module _ (t : Tree) (f : Found) where
-  abbrev special : List Demand
-  special = refuse EPERM (is_special f) ∷ []
-
   abbrev others : List Demand
   others =
       refuse ENOTDIR (f.slash && (is_found f && not (is_directory (the_node t (found_ino f)).body)))
       ∷ refuse EPERM (is_found f && is_directory (the_node t (found_ino f)).body) ∷ []
 
-  pub source_special : Refuses (first_of (refuse EPERM (is_special f) ∷ [])) (first_of (source_asked t f))
-  source_special = refuses_some special (must_be_there f ∷ others)
+  pub source_absent : Refuses (must_be_there f) (first_of (source_asked t f))
+  source_absent = refuses_first (must_be_there f) others
 
-  module _ (plain : checked (first_of (refuse EPERM (is_special f) ∷ [])) ≡ Ok tt) where
-    pub source_absent : Refuses (must_be_there f) (first_of (source_asked t f))
-    source_absent = refuses_others special (must_be_there f ∷ others) (demand_met (first_of special) plain) (refuses_first (must_be_there f) others)
+  pub source_other : {p : Geometry} {map : SectorMap} {n : ℕ} {v : Inode} → IsInodeFound p map f n v → IsNode p.version map t f n v
+      → Refuses (first_of (refuse ENOTDIR (f.slash && not (is_directory_kind v.kind)) ∷ refuse EPERM (is_directory_kind v.kind) ∷ [])) (first_of (source_asked t f))
+  source_other k node = refuses_next (must_be_there f) others k.met (λ (e : Refusal) is. ap first_of (sym (kind_says k node)) ∙ is)
 
-    pub source_other : {p : Geometry} {map : SectorMap} {n : ℕ} {v : Inode} → IsInodeFound p map f n v → IsNode p.version map t f n v
-        → Refuses (first_of (refuse ENOTDIR (f.slash && not (is_directory_kind v.kind)) ∷ refuse EPERM (is_directory_kind v.kind) ∷ [])) (first_of (source_asked t f))
-    source_other k node =
-        refuses_others special (must_be_there f ∷ others) (demand_met (first_of special) plain)
-        (refuses_next (must_be_there f) others k.met (λ (e : Refusal) is. ap first_of (sym (kind_says k node)) ∙ is))
-
-  pub source_all_met : checked (first_of (refuse EPERM (is_special f) ∷ [])) ≡ Ok tt → {p : Geometry} {map : SectorMap} {n : ℕ} {v : Inode} → IsInodeFound p map f n v → IsNode p.version map t f n v
+  pub source_all_met : {p : Geometry} {map : SectorMap} {n : ℕ} {v : Inode} → IsInodeFound p map f n v → IsNode p.version map t f n v
       → checked (first_of (refuse ENOTDIR (f.slash && not (is_directory_kind v.kind)) ∷ refuse EPERM (is_directory_kind v.kind) ∷ [])) ≡ Ok tt
       → first_of (source_asked t f) ≡ None
-  source_all_met plain {p} {map} {n} {v} k node is =
-      all_met special (must_be_there f ∷ others) (met_ok {A = Unit {0}} (first_of special) tt tt plain).0
-      (both_met (must_be_there f) others k.met
-      (met_ok {A = Unit {0}} (first_of others) tt tt (ap (λ (ds : List Demand). checked (first_of ds)) (sym (kind_says k node)) ∙ is)).0)
+  source_all_met {p} {map} {n} {v} k node is =
+      both_met (must_be_there f) others k.met
+      (met_ok {A = Unit {0}} (first_of others) tt tt (ap (λ (ds : List Demand). checked (first_of ds)) (sym (kind_says k node)) ∙ is)).0
 
   -- where all is met, it is there
   pub source_inode : (p : Geometry) (map : SectorMap) {n : ℕ} {v : Inode}
       → refused_or {A = ℕ × Inode} (first_of (source_asked t f)) (Ok (found_ino f, inode_at p map (found_ino f))) ≡ Ok (n, v) → (first_of (source_asked t f) ≡ None) × IsInodeFound p map f n v
   source_inode p map {n} {v} is =
       let both = met_ok {A = ℕ × Inode} (first_of (source_asked t f)) (found_ino f, inode_at p map (found_ino f)) (n, v) is in
-      let there = first_met (must_be_there f) _ (then_met (refuse EPERM (is_special f)) _ both.0) in (
+      let there = first_met (must_be_there f) _ both.0 in (
         both.0,
         is_inode p map f n v
             (ap (λ (e : Demand). refused_or {A = ℕ × Inode} e (Ok (found_ino f, inode_at p map (found_ino f)))) there ∙ ap (λ (x : ℕ × Inode). Ok x) both.1),
@@ -140,7 +130,7 @@ module _ {p : Geometry} {map : SectorMap} {processes : ProcessTable} {q : Proces
   abbrev last : List Demand
   last =
       permission_on q.cred s.tree g.dir_ino write_and_search 2 (g.step - 1)
-      ∷ refuse EMLINK (nat_le s.room.names_limit (names_of s.tree (found_ino f)))
+      ∷ link_count_demand s.room.names_limit (names_of s.tree (found_ino f))
       ∷ refuse ENOSPC (nat_lt s.free least_free)
       ∷ refuse ENOSPC (nat_le s.room.entries_limit (length (names_of_body (the_node s.tree g.dir_ino).body)))
       ∷ []
@@ -158,7 +148,7 @@ module _ {p : Geometry} {map : SectorMap} {processes : ProcessTable} {q : Proces
     -- what is linked is no directory
     pub source_kind : IsFalse (is_directory source_node.node.body)
     source_kind =
-        let rest = then_met (must_be_there f) _ (then_met (refuse EPERM (is_special f)) _ source_met) in
+        let rest = then_met (must_be_there f) _ source_met in
         let last = then_met (refuse ENOTDIR (f.slash && (is_found f && not (is_directory (the_node s.tree (found_ino f)).body)))) _ rest in
         let other = unrefused EPERM (is_found f && is_directory (the_node s.tree (found_ino f)).body)
         (first_met (refuse EPERM (is_found f && is_directory (the_node s.tree (found_ino f)).body)) None last) in
@@ -172,12 +162,12 @@ module _ {p : Geometry} {map : SectorMap} {processes : ProcessTable} {q : Proces
     last_is =
         ap (λ (c : ℕ). place_asked p map q.cred s.tree g.dir_ino (g.step - 1) c) (source_names ∙ ap (names_of s.tree) (sym k.number))
         ∙ ap (λ (c : ℕ). permission_on q.cred s.tree g.dir_ino write_and_search 2 (g.step - 1)
-        ∷ refuse EMLINK (nat_le (max_inode_names p.version) (names_of s.tree (found_ino f)))
+        ∷ link_count_demand (max_inode_names p.version) (names_of s.tree (found_ino f))
         ∷ refuse ENOSPC (nat_lt c least_free)
         ∷ refuse ENOSPC (nat_le (max_names p.version) (length (names_of_body (the_node s.tree g.dir_ino).body)))
         ∷ []) (sym i.is_state.free_is)
         ∙ ap (λ (r : Room). permission_on q.cred s.tree g.dir_ino write_and_search 2 (g.step - 1)
-        ∷ refuse EMLINK (nat_le r.names_limit (names_of s.tree (found_ino f)))
+        ∷ link_count_demand r.names_limit (names_of s.tree (found_ino f))
         ∷ refuse ENOSPC (nat_lt s.free least_free)
         ∷ refuse ENOSPC (nat_le r.entries_limit (length (names_of_body (the_node s.tree g.dir_ino).body)))
         ∷ []) (sym i.is_state.same_room)

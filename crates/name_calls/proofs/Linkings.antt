@@ -5,10 +5,13 @@
 --     link_may, few_names        the name may be given
 --     target_below, linked_below, dir_same, dir_room, link_holds        the count of names, the directory, and both
 --     link_changed        the name was given
+use Rattle.std.specs.Prelude.{true}
+use Rattle.call_parts.specs.Callers.{Who}
+use Rattle.call_parts.proofs.Starts.{may_make}
 use Rattle.std.specs.Prelude.{◌≡◌, ◌≢◌, ℕ, ◌+◌, ◌-◌, ◌<◌, ◌≤◌, nat_lt, nat_le, true, false, List, [], ◌∷◌, ◌++◌, length, None, Some, IsTrue, Ok}
 use Rattle.std.proofs.Common.{refl, sym, ap, subst, arith, ◌∙◌}
 use Rattle.std.proofs.lemmas.Bool.Decides.{nat_tests}
-use Rattle.fs_cred.specs.declared.errno.Errno.TheVariants.{EMLINK, ENOSPC}
+use Rattle.fs_cred.specs.declared.errno.Errno.TheVariants.{ENOSPC}
 use Rattle.fs_layout.specs.declared.inode.Inode.{Inode}
 use Rattle.fs_layout.specs.declared.inode.Kind.TheVariants as kinds
 use Rattle.fs_layout.specs.declared.geometry.Geometry.{Geometry}
@@ -27,7 +30,7 @@ use Rattle.fs_model.specs.declared.touch.Touch.TheVariants.{Changed, Modified}
 use Rattle.fs_model.specs.TreeChanges.{AddName, changed, touches_of, swept}
 use Rattle.fs_model.specs.Demands.{Demand, refuse, first_of, permission_on, write_and_search}
 use Rattle.fs_model.specs.Limits.{least_free}
-use Rattle.fs_model.specs.NameCalls.{link_demands, link_effect}
+use Rattle.fs_model.specs.NameCalls.{link_demands, link_count_demand, link_effect}
 use Rattle.fs_model.specs.Nodes.{Node, is_directory, names_of_body}
 use Rattle.fs_model.specs.Processes.{Process, ProcessTable, is_open}
 use Rattle.fs_model.specs.Rows.{row_of}
@@ -40,7 +43,7 @@ use Rattle.fs_model.proofs.OneNode.{body_not_free}
 use Rattle.fs_model.proofs.PlacedChanges.{add_held}
 use Rattle.fs_model.proofs.PlacedNodes.{placed_from, placing, placing_other, one_replaced, held_at, node_below}
 use Rattle.fs_model.proofs.StepsAdding.{GivesName}
-use Rattle.fs_model.proofs.StepsDemands.{first_met, then_met, unrefused}
+use Rattle.fs_model.proofs.StepsDemands.{first_met, then_met, unrefused, link_count_met}
 use Rattle.fs_model.proofs.StepsFound.{IsNameAt}
 use Rattle.path_walk.specs.Answers.{refused_or}
 use Rattle.call_parts.specs.Times.{AreBelow}
@@ -64,9 +67,9 @@ use Rattle.name_calls.proofs.Takings.{field_is}
 
 -- ---- the row
 
-pub link_by_two : (old new : List ℕ) → WalksBoth (Link old new) old new link_demands link_effect
+pub link_by_two : {who : Who} → (old new : List ℕ) → WalksBoth who (Link old new) true old new link_demands link_effect
 unfolding row_of
-link_by_two old new = record { row = refl; asks = refl }
+link_by_two {who} old new = record { row = refl; asks = refl; may = may_make who _ refl refl }
 
 -- ---- all is met
 
@@ -81,7 +84,7 @@ pub record IsLinkable (p : Geometry) (map : SectorMap) (s : State) (q : Process)
 abbrev place_demands : State → Process → Found → Found → List Demand
 place_demands s q f g =
     permission_on q.cred s.tree g.dir_ino write_and_search 2 (g.step - 1)
-    ∷ refuse EMLINK (nat_le s.room.names_limit (names_of s.tree (found_ino f)))
+    ∷ link_count_demand s.room.names_limit (names_of s.tree (found_ino f))
     ∷ refuse ENOSPC (nat_lt s.free least_free)
     ∷ refuse ENOSPC (nat_le s.room.entries_limit (length (names_of_body (the_node s.tree g.dir_ino).body)))
     ∷ []
@@ -131,7 +134,7 @@ module _ {p : Geometry} {map : SectorMap} {processes : ProcessTable} {q : Proces
     few_are =
         let two = then_met (permission_on q.cred s.tree g.dir_ino write_and_search 2 (g.step - 1)) _ last_met in
         let many : nat_le s.room.names_limit (names_of s.tree (found_ino f)) ≡ false =
-        unrefused EMLINK (nat_le s.room.names_limit (names_of s.tree (found_ino f))) (first_met (refuse EMLINK (nat_le s.room.names_limit (names_of s.tree (found_ino f)))) _ two) in
+        link_count_met s.room.names_limit (names_of s.tree (found_ino f)) (first_met (link_count_demand s.room.names_limit (names_of s.tree (found_ino f))) _ two) in
         let few : names_of s.tree (found_ino f) < s.room.names_limit = grind (arith, nat_tests) in
         subst (λ (r : Room). names_of s.tree n < r.names_limit) i.is_state.same_room
         (subst (λ (m : ℕ). names_of s.tree m < s.room.names_limit) l.inode.number few)
@@ -145,7 +148,7 @@ module _ {p : Geometry} {map : SectorMap} {processes : ProcessTable} {q : Proces
         let x = name_at l.name_met in
         let node = source_node i l.source_met l.name_met l.inode in
         let two = then_met (permission_on q.cred s.tree g.dir_ino write_and_search 2 (g.step - 1)) _ last_met in
-        let three = then_met (refuse EMLINK (nat_le s.room.names_limit (names_of s.tree (found_ino f)))) _ two in
+        let three = then_met (link_count_demand s.room.names_limit (names_of s.tree (found_ino f))) _ two in
         let low : nat_lt s.free least_free ≡ false = unrefused ENOSPC (nat_lt s.free least_free) (first_met (refuse ENOSPC (nat_lt s.free least_free)) _ three) in
         let four = then_met (refuse ENOSPC (nat_lt s.free least_free)) _ three in
         let full : nat_le s.room.entries_limit (length (names_of_body (the_node s.tree g.dir_ino).body)) ≡ false =

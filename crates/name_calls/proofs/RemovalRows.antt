@@ -5,6 +5,9 @@
 --     target_told        the last part, as the inode says it
 --     inode_told, target_found, target_met, target_may        where all is met
 --     target_gone        the name is gone
+use Rattle.fs_model.specs.declared.call.Call.TheVariants.{Unlink, Rmdir}
+use Rattle.call_parts.specs.Callers.{Who, MayMake, first_start}
+use Rattle.call_parts.proofs.Starts.{may_make, path_fits}
 use Rattle.std.specs.Prelude.{◌≡◌, ℕ, ◌==◌, Bool, true, false, not, ◌&&◌, ◌||◌, List, [], ◌∷◌, ◌++◌, Option, None, is_some, IsTrue, Ok}
 use Rattle.std.proofs.Common.{refl, sym, ap, subst, ◌∙◌}
 use Rattle.std.specs.List.{list_any}
@@ -63,8 +66,12 @@ asks : (what : Target) (path : List ℕ) → IsTrue (asks_in_call (removal_call 
 asks targets.NoDirectory path = refl
 asks targets.Directory path = refl
 
-pub removes_by_path : (what : Target) (path : List ℕ) → WalksPath (removal_call what path) (Ok tt) Parent path (removal_demands what) takes_name
-removes_by_path what path = record { arguments = []; row = row_is what path; are_checked = refl; asks = asks what path }
+may : (who : Who) (what : Target) (path : List ℕ) → MayMake who (removal_call what path) false
+may who targets.NoDirectory path = may_make who (Unlink path) refl refl
+may who targets.Directory path = may_make who (Rmdir path) refl refl
+
+pub removes_by_path : {who : Who} → (what : Target) (path : List ℕ) → WalksPath who (removal_call what path) (Ok tt) false Parent path (removal_demands what) takes_name
+removes_by_path {who} what path = record { arguments = []; row = row_is what path; are_checked = refl; asks = asks what path; may = may who what path }
 
 -- ---- demands in three parts
 
@@ -76,9 +83,9 @@ parts_met a b c none =
 
 -- ---- what was found
 
-pub finds_name : {p : Geometry} {map : SectorMap} {processes : ProcessTable} {s : State} {pid : ℕ} {q : Process} {path : List ℕ} {f : Found} → IsBytes path
-    → IsStateOf p map processes s → HasFound s pid q Parent path f → FindsName p map processes q f s
-finds_name {p} {map} {processes} {s} {pid} {q} {path} {f} bytes at has = record { pid = pid; path = path; bytes = bytes; is_state = at; found = has }
+pub finds_name : {p : Geometry} {map : SectorMap} {processes : ProcessTable} {s : State} {who : Who} {q : Process} {path : List ℕ} {f : Found} → IsBytes path
+    → IsStateOf p map processes s → HasFound s who q false Parent path f → FindsName p map processes q f s
+finds_name {p} {map} {processes} {s} {who} {q} {path} {f} bytes at has = record { who = who; path = path; bytes = bytes; is_state = at; found = has }
 
 -- where nothing more is asked of the last component, it is a name
 pub last_is_name : (what : Target) (f : Found) → first_of (last_asked what f) ≡ None → is_special f ≡ false
@@ -93,10 +100,9 @@ last_is_name targets.Directory f none =
 module _ {p : Geometry} {map : SectorMap} {processes : ProcessTable} {q : Process} {f : Found} {s : State} (i : FindsName p map processes q f s) where
   name_at : is_special f ≡ false → IsNameAt s.room s.tree f.dir_ino f.name f.ino
   name_at special =
-      let later = then_met (refuse ENOENT (is_empty i.path)) _ i.found.checked in
-      let no_zero = unrefused EINVAL (list_any (λ b. b == 0) i.path) (first_met (refuse EINVAL (list_any (λ b. b == 0) i.path)) _ later) in
-      let walked : IsWalked s.room s.tree Parent (found_by s.room s.tree q.cwd (Parent, i.path)) =
-      is_walked s.room i.is_state.is_state.room.name_limit s.tree i.is_state.is_state.tree q.cred q.cwd 1 (Parent, i.path) i.bytes no_zero i.found.unrefused in
+      let walked : IsWalked s.room s.tree Parent (found_by s.room s.tree (first_start i.who q) (Parent, i.path)) =
+      is_walked s.room i.is_state.is_state.room.name_limit s.tree i.is_state.is_state.tree q.cred (first_start i.who q) 1 (Parent, i.path) i.bytes
+      (path_fits i.who i.path i.found.checked).no_zero i.found.unrefused in
       (subst (IsWalked s.room s.tree Parent) (sym i.found.is) walked).old refl special
 
   pub name_there : is_special f ≡ false → IsNamedThere s.tree f

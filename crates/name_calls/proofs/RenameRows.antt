@@ -5,6 +5,8 @@
 --     names_refuse, move_refuses, same_met, move_met        the whole
 --     IsRenamable, rename_told        where all that is asked is met
 --     may_move, rename_stays, rename_changed        the name may go, nothing changed, and it has gone
+use Rattle.call_parts.specs.Callers.{Who}
+use Rattle.call_parts.proofs.Starts.{may_make}
 use Rattle.std.specs.Prelude.{◌≡◌, ◌≢◌, ℕ, ◌<◌, ◌≤◌, ◌==◌, nat_lt, Bool, true, false, not, ◌&&◌, List, [], ◌∷◌, ◌++◌, length, Option, None, Some, is_some, unwrap_or, if◌then◌else◌, IsTrue, Ok}
 use Rattle.std.proofs.Common.{refl, sym, ap, subst, arith, ◌∙◌}
 use Rattle.std.proofs.lemmas.Bool.Decides.{nat_tests}
@@ -57,9 +59,9 @@ use Rattle.call_parts.proofs.FoundBoth.{first_there, second_there, first_walked,
 
 -- ---- the row
 
-pub rename_by_two : (old new : List ℕ) → WalksBoth (Rename old new) old new rename_demands rename_effect
+pub rename_by_two : {who : Who} → (old new : List ℕ) → WalksBoth who (Rename old new) false old new rename_demands rename_effect
 unfolding row_of
-rename_by_two old new = record { row = refl; asks = refl }
+rename_by_two {who} old new = record { row = refl; asks = refl; may = may_make who _ refl refl }
 
 -- ---- the demands in two parts
 

@@ -1,6 +1,9 @@
 -- The target of a symbolic link, as its inode holds it.
 --     readlink_by_path        the row of readlink
 --     is_kind_of_link, other_kind_refused, target_holds, target_told        what it asks and answers
+use Rattle.std.specs.Prelude.{true}
+use Rattle.call_parts.specs.Callers.{Who}
+use Rattle.call_parts.proofs.Starts.{may_make}
 use Rattle.std.specs.Prelude.{◌≡◌, ℕ, Bool, true, false, not, List, [], ◌∷◌, None, Ok, Err}
 use Rattle.std.proofs.Common.{refl, sym, ap, ◌∙◌, inl}
 use Rattle.sector_disk.specs.Disk.{DiskState}
@@ -38,8 +41,8 @@ readlink_is : (path : List ℕ) → row_of (Readlink path) ≡ readlink_row path
 unfolding row_of
 readlink_is path = refl
 
-pub readlink_by_path : (path : List ℕ) → WalksPath (Readlink path) (Ok tt) NoFollow path readlink_demands readlink_effect
-readlink_by_path path = record { arguments = []; row = readlink_is path; are_checked = refl; asks = refl }
+pub readlink_by_path : {who : Who} → (path : List ℕ) → WalksPath who (Readlink path) (Ok tt) true NoFollow path readlink_demands readlink_effect
+readlink_by_path {who} path = record { arguments = []; row = readlink_is path; are_checked = refl; asks = refl; may = may_make who _ refl refl }
 
 -- ---- what it asks and answers
 

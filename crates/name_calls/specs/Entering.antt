@@ -1,6 +1,5 @@
 -- What is asked of what becomes a current directory.
 --     enter_asked        to be there, a directory, and to be searched by the caller
---     FindsType        the type of what stands at a number
 --     AsksOfBoth        what is asked where two directories are entered
 use Rattle.std.specs.Prelude.{◌≡◌, ℕ, List, [], ◌∷◌, not, Option, Result, IfOk, IfErr}
 use Rattle.sector_disk.specs.Disk.{HasFailed}
@@ -18,7 +17,7 @@ use Rattle.fs_model.specs.Scenes.{found_ino, must_be_there}
 use Rattle.fs_model.specs.Steps.{enter_demands}
 use Rattle.fs_model.specs.Trees.{Tree}
 use Rattle.path_walk.specs.HeldTrees.{HoldsTree}
-use Rattle.name_calls.specs.Enters.{type_in, IsAskedOfBoth}
+use Rattle.name_calls.specs.Enters.{IsAskedOfBoth}
 
 abbrev pub enter_asked : Credential → Tree → Found → List Demand
 enter_asked cred t f =
@@ -26,12 +25,6 @@ enter_asked cred t f =
     ∷ refuse ENOTDIR (not (is_directory (the_node t (found_ino f)).body))
     ∷ search_on cred t (found_ino f) 1 f.step
     ∷ []
-
--- what stands at n is of this type in each tree that the disk may hold; or a read has failed
-pub record FindsType (p : Geometry) (n : ℕ) (old new : TxnState) (result : Result (Option FileType) Errno) : Type 0 where
-  pub found : IfOk result (λ found. (t : Tree) → HoldsTree p old.sectors t → found ≡ type_in t n)
-  pub fault : IfErr result (λ errno. (errno ≡ EIO) × HasFailed old.disk new.disk)
-  pub same : IsUnchanged old new
 
 -- both are asked in each tree that the disk may hold
 pub record AsksOfBoth (p : Geometry) (directory second : ℕ) (old new : TxnState) (result : Result (Unit {0}) Errno) : Type 0 where

@@ -1,5 +1,4 @@
 -- What puts a process into directories asks of their numbers, and leaves of the process. It is no call: it is trusted.
---     type_in        the type of what stands at a number
 --     both_directories        both are there, and then both are directories
 --     IsAskedOfBoth        what is asked of both, or a read that failed
 --     IsEntered, IsNotEntered, Enters        the whole
@@ -22,9 +21,6 @@ use Rattle.fs_model.specs.States.{State}
 use Rattle.fs_model.specs.Steps.{enter_demands}
 use Rattle.fs_model.specs.Trees.{Tree, node_at}
 use Rattle.call_parts.specs.Performing.{IsStateOf}
-
-abbrev pub type_in : Tree → ℕ → Option FileType
-type_in t n = option_map (λ node. type_of node.body) (node_at t n)
 
 -- ENOENT before ENOTDIR
 abbrev pub both_directories : Option FileType → Option FileType → Result (Unit {0}) Errno

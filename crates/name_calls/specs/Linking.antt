@@ -4,7 +4,7 @@
 --     MayLink        a name that it may get
 --     MayLinkAt        that which was found
 use Rattle.std.specs.Prelude.{◌≡◌, ℕ, ◌<◌, ◌≤◌, nat_le, not, ◌&&◌, List, [], ◌∷◌, length, None, Some, IsFalse}
-use Rattle.fs_cred.specs.declared.errno.Errno.TheVariants.{EPERM, ENOTDIR, EMLINK}
+use Rattle.fs_cred.specs.declared.errno.Errno.TheVariants.{EPERM, ENOTDIR}
 use Rattle.fs_cred.specs.Credentials.{Credential}
 use Rattle.fs_layout.specs.declared.geometry.Geometry.{Geometry}
 use Rattle.fs_layout.specs.Bytes.{SectorMap, IsBytes}
@@ -16,6 +16,7 @@ use Rattle.fs_model.specs.declared.walk.Found.{Found}
 use Rattle.fs_model.specs.Births.{the_node}
 use Rattle.fs_model.specs.Demands.{Demand, refuse, permission_on, write_and_search}
 use Rattle.fs_model.specs.Limits.{least_free}
+use Rattle.fs_model.specs.NameCalls.{link_count_demand}
 use Rattle.fs_model.specs.Nodes.{Node, is_directory, names_of_body}
 use Rattle.fs_model.specs.Scenes.{is_found, is_special, found_ino, must_be_there}
 use Rattle.fs_model.specs.States.{State}
@@ -25,8 +26,7 @@ use Rattle.call_parts.specs.Makings.{room_asked}
 -- asked of the first path and of what it leads to
 abbrev pub source_asked : Tree → Found → List Demand
 source_asked t f =
-    refuse EPERM (is_special f)
-    ∷ must_be_there f
+    must_be_there f
     ∷ refuse ENOTDIR (f.slash && (is_found f && not (is_directory (the_node t (found_ino f)).body)))
     ∷ refuse EPERM (is_found f && is_directory (the_node t (found_ino f)).body)
     ∷ []
@@ -34,7 +34,7 @@ source_asked t f =
 -- asked of the directory of the second path, for what has so many names
 abbrev pub place_asked : Geometry → SectorMap → Credential → Tree → ℕ → ℕ → ℕ → List Demand
 place_asked p map cred t dir_ino step names =
-    permission_on cred t dir_ino write_and_search 2 step ∷ refuse EMLINK (nat_le (max_inode_names p.version) names) ∷ room_asked p map t dir_ino
+    permission_on cred t dir_ino write_and_search 2 step ∷ link_count_demand (max_inode_names p.version) names ∷ room_asked p map t dir_ino
 
 -- the name is new in directory dir, there is room for it, and n is no directory and has room for one more name
 pub record MayLink (p : Geometry) (map : SectorMap) (t : Tree) (dir_ino : ℕ) (name : List ℕ) (n : ℕ) : Type 0 where

@@ -4,6 +4,8 @@
 --     last_asked, directory_asked, kind_asked, target_asked        asked of the last component, of a directory, of what goes
 --     removal_demands, removal_call        the demands of a call that removes a name, and that call
 --     MayGo, MayGoAt        a name that may go; that which was found
+use Rattle.std.specs.Prelude.{false}
+use Rattle.call_parts.specs.Callers.{Who}
 use Rattle.std.specs.Prelude.{◌≡◌, ℕ, ◌-◌, Bool, not, ◌&&◌, List, [], ◌∷◌, ◌++◌, Some, IsTrue, IsFalse}
 use Rattle.fs_cred.specs.declared.errno.Errno.TheVariants.{EBUSY, EINVAL, EISDIR, ENOTDIR, ENOTEMPTY}
 use Rattle.fs_cred.specs.declared.refusal.Need.TheVariants.{Remove}
@@ -32,11 +34,11 @@ use Rattle.name_calls.specs.declared.removal.Target.TheVariants.{NoDirectory, Di
 
 -- in a state of this map and this table the process has found this, by a path that ends in a name
 pub record FindsName (p : Geometry) (map : SectorMap) (processes : ProcessTable) (q : Process) (f : Found) (s : State) : Type 0 where
-  pub pid : ℕ
+  pub who : Who
   pub path : List ℕ
   pub bytes : IsBytes path
   pub is_state : IsStateOf p map processes s
-  pub found : HasFound s pid q Parent path f
+  pub found : HasFound s who q false Parent path f
 
 -- the directory that names what was found is there, and so is what was found
 pub record IsNamedThere (t : Tree) (f : Found) : Type 0 where

@@ -3,29 +3,15 @@
 ghost use Rattle.std.specs.Prelude.{◌≡◌};
 ghost use Rattle.bit_alloc.specs.Inodes.{IsSound};
 ghost use Rattle.call_parts.specs.Performing.{MayPerform};
-ghost use Rattle.name_calls.specs.Entering.{FindsType, AsksOfBoth};
+ghost use Rattle.name_calls.specs.Entering.{AsksOfBoth};
 ghost use Rattle.name_calls.specs.Enters.{both_directories, Enters};
 
+use call_parts::type_at;
 use fs_cred::Errno;
 use fs_layout::Geometry;
 use fs_model::FileType;
-use inode_table::load;
 use open_files::Procs;
 use sector_txn::Sectors;
-
-// The type of what stands at a number; `None` where nothing does. EIO: the disk has failed.
-fn type_at<S: Sectors>(s: &mut S, geometry: Geometry, ino: u32) -> Result<Option<FileType>, Errno>
-    requires { IsSound geometry (S.state s.old) }
-    ensures { FindsType geometry ino (S.state s.old) (S.state s.new) result }
-{
-    if ino >= geometry.inodes {
-        return Ok(None);
-    }
-    match load(s, geometry, ino) {
-        Ok(inode) => Ok(FileType::of_kind(inode.kind)),
-        Err(_) => Err(Errno::EIO),
-    }
-}
 
 // Whether both are directories. ENOENT: one isn't there. ENOTDIR: one is none.
 fn both_directories(first: Option<FileType>, second: Option<FileType>) -> Result<(), Errno>

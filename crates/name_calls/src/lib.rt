@@ -15,6 +15,6 @@ mod renaming;
 
 pub use entering::enter;
 pub use making::{chdir, link, mkdir, readlink, symlink};
-pub use performing::perform;
+pub use performing::{perform, perform_for_process};
 pub use removal::{rmdir, unlink};
 pub use renaming::rename;

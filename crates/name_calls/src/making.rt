@@ -1,6 +1,6 @@
 //! New names: POSIX.1-2017, mkdir(), symlink() and link(). And what leads to a directory or a link: chdir() and readlink().
 
-ghost use Rattle.std.specs.Prelude.{◌≡◌, ◌≢◌, ◌≤◌, ◌+◌, ◌/◌, ◌%◌, ◌<◌, ◌==◌, cond, Ok, option_copied, Err, IfOk, IfErr, IsSome, not, ◌-◌, nat_le, ℕ, List, [], ◌∷◌, ◌&&◌};
+ghost use Rattle.std.specs.Prelude.{◌≡◌, ◌≢◌, ◌≤◌, ◌+◌, ◌/◌, ◌%◌, ◌<◌, ◌==◌, cond, Ok, option_copied, Err, IfOk, IfErr, IsSome, true, not, ◌-◌, nat_le, ℕ, List, [], ◌∷◌, ◌&&◌};
 ghost use Rattle.std.specs.Ordering.{nat_cmp};
 ghost use Rattle.fs_layout.specs.Maps.{get};
 ghost use Rattle.fs_layout.specs.Images.{inode_at};
@@ -10,11 +10,12 @@ ghost use Rattle.fs_model.specs.Processes.{ProcessTable, standing_at};
 ghost use Rattle.open_files.specs.Tables.{with_changed};
 ghost use Rattle.fs_model.specs.Births.{born_directory, the_node, born_link};
 ghost use Rattle.fs_model.specs.Demands.{first_of, refuse};
-ghost use Rattle.fs_model.specs.Scenes.{found_ino, must_be_new, is_special};
+ghost use Rattle.fs_model.specs.Scenes.{found_ino, must_be_new};
 ghost use Rattle.fs_model.specs.Trees.{Tree, IsTarget, IsDirectoryAt};
 ghost use Rattle.path_walk.specs.Answers.{refused_or};
 ghost use Rattle.fs_model.specs.declared.call.Call.TheVariants.{Mkdir, Chdir, Symlink, Readlink, Link};
-ghost use Rattle.call_parts.specs.Performing.{MayPerform, Performs, IsReadyFor, PerformsFor};
+ghost use Rattle.call_parts.specs.Performing.{MayPerform, Performs, IsReadyFor, PerformsBy, PerformsFor};
+ghost use Rattle.call_parts.specs.Callers.{ByProcess};
 ghost use Rattle.call_parts.specs.Makings.{CanMake};
 ghost use Rattle.call_parts.specs.Altering.{MayAlter, AltersDisk, HoldsChange};
 ghost use Rattle.name_calls.specs.Entering.{enter_asked};
@@ -22,7 +23,7 @@ ghost use Rattle.name_calls.specs.Making.{HasNewName, Makes};
 ghost use Rattle.call_parts.specs.NewNodes.{MakesNode, directory_made, link_made, link_name_asked};
 ghost use Rattle.call_parts.specs.Telling.{checked, ShowsTree, TellsTree, FoundThere, HasState, TellsOf, FindsWalked, scene_walked};
 ghost use Rattle.fs_layout.specs.Bytes.{IsBytes};
-ghost use Rattle.fs_model.specs.NameCalls.{symlink_arguments, link_demands};
+ghost use Rattle.fs_model.specs.NameCalls.{symlink_arguments, link_demands, link_count_demand};
 ghost use Rattle.fs_model.specs.Summaries.{is_link_kind};
 ghost use Rattle.fs_layout.specs.Version.{max_inode_names};
 ghost use Rattle.fs_model.specs.TreeChanges.{AddName};
@@ -32,15 +33,15 @@ ghost use Rattle.name_calls.specs.Walking.{WalksTo};
 
 use block_map::new_link;
 use call_parts::{
-    Asker, CallResult, Caller, Walked, WalkedBoth, ask_directory, ask_for_name, check_is_directory,
-    check_make, check_mode, check_slash, default_of, inherited, inode_found, is_new, name_inode,
-    new_group, reach, set_names, touch, walk_both, walk_path,
+    Asker, By, CallResult, Caller, Walked, WalkedBoth, ask_directory, ask_for_name,
+    check_is_directory, check_make, check_mode, check_slash, default_of, inherited, inode_found,
+    is_new, name_inode, new_group, reach, set_names, touch, walk_both, walk_path,
 };
 use fs_cred::{Cred, Errno, Refusal};
 use fs_layout::{Geometry, Inode, Kind, MAX_LINK_SIZE, S_ISGID, S_ISVTX};
-use fs_model::{Form, Found, Last, Path, Reply, Touch};
+use fs_model::{Form, Found, Path, Reply, Touch};
 use inode_table::new_inode;
-use open_files::{Process, Procs};
+use open_files::{Judged, Procs};
 use path_walk::{read_target, search};
 use posix_acl::Acl;
 use sector_txn::Sectors;
@@ -109,12 +110,12 @@ fn make_directory<S: Sectors>(
     mode: u16,
 ) -> Result<u32, Refusal>
     requires { HasNewName caller.now.geometry (S.state s.old) walked.now.found }
-    ensures { Makes caller.now.geometry walked.now.process.now.cred walked.now.found
-        (λ t. born_directory walked.now.process.now.cred walked.now.process.now.umask mode
+    ensures { Makes caller.now.geometry walked.now.process.cred walked.now.found
+        (λ t. born_directory walked.now.process.cred walked.now.process.umask mode
         (the_node t walked.now.found.dir_ino)) (S.state s.old) (S.state s.new) result }
 {
     let geometry = caller.geometry;
-    let process = walked.process;
+    let process = &walked.process;
     let found = &walked.found;
     let cred = process.cred();
     let step = found.step.saturating_sub(1);
@@ -150,7 +151,7 @@ pub fn mkdir<S: Sectors>(s: &mut S, caller: &Caller, path: &Path, mode: u16) -> 
     ensures { PerformsFor caller.now (Mkdir path.now mode) (S.state s.old) (S.state s.new) result }
 {
     let checks = check_mode(mode);
-    let walked = walk_path(s, caller, checks, path, Form::Parent)?;
+    let walked = walk_path(s, caller, checks, path, false, Form::Parent)?;
     check_new(&walked.found)?;
     let ino = make_directory(s, caller, &walked, mode)?;
     let touches = [(walked.found.dir_ino, Touch::Modified), (ino, Touch::Born)];
@@ -185,17 +186,23 @@ fn directory_found<S: Sectors>(
 
 // The directory that the path of chdir leads to. At `Err` that is its refusal; else it is performed once the process stands
 // there.
-fn directory_at<S: Sectors>(s: &mut S, caller: &Caller, path: &Path) -> Result<u32, Refusal>
+fn directory_at<S: Sectors>(
+    s: &mut S,
+    caller: &Caller,
+    pid: usize,
+    path: &Path,
+) -> Result<u32, Refusal>
     requires ready { IsReadyFor caller.now (S.state s.old) }
-    ensures refused { IfErr result (λ e. PerformsFor caller.now (Chdir path.now) (S.state s.old) (S.state s.new) (Err e)) }
-    ensures there { IfOk result (λ n. IsSome (get nat_cmp caller.now.procs.now caller.now.pid)) }
+    requires runs { caller.now.by ≡ By.Process pid }
+    ensures refused { IfErr result (λ e. PerformsBy caller.now (ByProcess pid) (Chdir path.now) (S.state s.old) (S.state s.new) (Err e)) }
+    ensures there { IfOk result (λ n. IsSome (get nat_cmp caller.now.procs.now pid)) }
     ensures entered { IfOk result (λ n. (now : ProcessTable)
-        → now ≡ with_changed caller.now.procs.now caller.now.pid (standing_at n n)
-        → Performs caller.now.geometry caller.now.time caller.now.pid (Chdir path.now) (S.state s.old) (S.state s.new)
+        → now ≡ with_changed caller.now.procs.now pid (standing_at n n)
+        → Performs caller.now.geometry caller.now.time (ByProcess pid) (Chdir path.now) (S.state s.old) (S.state s.new)
         caller.now.procs.now now (Ok Done)) }
     ensures same { IsUnchanged (S.state s.old) (S.state s.new) }
 {
-    let walked = walk_path(s, caller, Ok(()), path, Form::Follow)?;
+    let walked = walk_path(s, caller, Ok(()), path, false, Form::Follow)?;
     let cred = walked.process.cred();
     let ino = directory_found(s, caller, cred, &walked.found)?;
     Ok(ino)
@@ -205,12 +212,12 @@ fn directory_at<S: Sectors>(s: &mut S, caller: &Caller, path: &Path) -> Result<u
 /// nothing. ENOTDIR: it leads to what is no directory.
 pub fn chdir<S: Sectors>(s: &mut S, asker: Asker, procs: &mut Procs, path: &Path) -> CallResult
     requires ready { MayPerform asker.geometry (S.state s.old) procs.old }
-    ensures performs { Performs asker.geometry asker.time asker.pid (Chdir path.now)
+    ensures performs { Performs asker.geometry asker.time (ByProcess asker.pid) (Chdir path.now)
         (S.state s.old) (S.state s.new) procs.old procs.new result }
     ensures same { IsUnchanged (S.state s.old) (S.state s.new) }
 {
     let caller = asker.caller(procs);
-    let ino = directory_at(s, &caller, path)?;
+    let ino = directory_at(s, &caller, asker.pid, path)?;
     procs.stand_at(asker.pid, ino, ino);
     Ok(Reply::Done)
 }
@@ -281,8 +288,8 @@ fn make_link<S: Sectors>(
 ) -> Result<u32, Refusal>
     requires ready { HasNewName caller.now.geometry (S.state s.old) walked.now.found }
     requires target { IsTarget target.now }
-    ensures { Makes caller.now.geometry walked.now.process.now.cred walked.now.found
-        (λ t. born_link walked.now.process.now.cred target.now (the_node t walked.now.found.dir_ino))
+    ensures { Makes caller.now.geometry walked.now.process.cred walked.now.found
+        (λ t. born_link walked.now.process.cred target.now (the_node t walked.now.found.dir_ino))
         (S.state s.old) (S.state s.new) result }
 {
     let found = &walked.found;
@@ -301,7 +308,7 @@ pub fn symlink<S: Sectors>(s: &mut S, caller: &Caller, target: &Path, path: &Pat
     ensures { PerformsFor caller.now (Symlink target.now path.now) (S.state s.old) (S.state s.new) result }
 {
     let checks = check_target(target);
-    let walked = walk_path(s, caller, checks, path, Form::Parent)?;
+    let walked = walk_path(s, caller, checks, path, false, Form::Parent)?;
     check_link_name(&walked.found)?;
     let ino = make_link(s, caller, &walked, target)?;
     let touches = [(walked.found.dir_ino, Touch::Modified), (ino, Touch::Born)];
@@ -325,20 +332,10 @@ pub fn readlink<S: Sectors>(s: &mut S, caller: &Caller, path: &Path) -> CallResu
     ensures performs { PerformsFor caller.now (Readlink path.now) (S.state s.old) (S.state s.new) result }
     ensures same { IsUnchanged (S.state s.old) (S.state s.new) }
 {
-    let reached = reach(s, caller, Ok(()), path, Form::NoFollow)?;
+    let reached = reach(s, caller, Ok(()), path, true, Form::NoFollow)?;
     check_is_link(&reached.inode)?;
     let target = read_target(caller.alloc, s, caller.geometry, &reached.inode)?;
     Ok(Reply::Target(target))
-}
-
-// Asks whether a path ends in a name.
-fn check_last(found: &Found) -> Result<(), Refusal>
-    ensures { result ≡ checked (first_of (refuse Errno.EPERM (is_special found.now) ∷ [])) }
-{
-    match found.last {
-        Last::Name => Ok(()),
-        Last::Dot | Last::DotDot | Last::Top => Err(Refusal::Failed(Errno::EPERM)),
-    }
 }
 
 // Asks whether what was found is no directory, and wasn't named as one.
@@ -365,7 +362,6 @@ fn check_source<S: Sectors>(
         (Ok (found_ino found.now, inode_at geometry (S.state s.old).sectors (found_ino found.now))))
         (S.state s.old) (S.state s.new) result }
 {
-    check_last(found)?;
     let (ino, inode) = inode_found(s, geometry, found)?;
     check_kind(found, inode.kind)?;
     Ok((ino, inode))
@@ -373,8 +369,11 @@ fn check_source<S: Sectors>(
 
 // Asks whether what has so many names may have one more.
 fn check_count(geometry: Geometry, names: u32) -> Result<(), Refusal>
-    ensures { result ≡ checked (refuse Errno.EMLINK (nat_le (max_inode_names geometry.version) names)) }
+    ensures { result ≡ checked (link_count_demand (max_inode_names geometry.version) names) }
 {
+    if names == 0 {
+        return Err(Refusal::Failed(Errno::ENOENT));
+    }
     let most = geometry.version.max_inode_names();
     if names >= most {
         return Err(Refusal::Failed(Errno::EMLINK));
@@ -386,7 +385,7 @@ fn check_count(geometry: Geometry, names: u32) -> Result<(), Refusal>
 fn check_place<S: Sectors>(
     s: &mut S,
     caller: &Caller,
-    process: &Process,
+    process: &Judged,
     found: &Found,
     names: u32,
 ) -> Result<Inode, Refusal>
@@ -424,7 +423,7 @@ fn check_link<S: Sectors>(
     let (ino, inode) = check_source(s, caller.geometry, &walked.first)?;
     let second = &walked.second;
     check_link_name(second)?;
-    let process = walked.process;
+    let process = &walked.process;
     let directory = check_place(s, caller, process, second, inode.names)?;
     Ok((ino, inode, directory))
 }
@@ -455,8 +454,8 @@ fn add_name<S: Sectors>(
 
 // Names what the first path has led to, as the second ends.
 fn link_walked<S: Sectors>(s: &mut S, caller: &Caller, walked: &WalkedBoth) -> CallResult
-    requires { (old : List ℕ) × (new : List ℕ) × WalksTo caller.now (S.state s.old) walked.now old new }
-    ensures { (old new : List ℕ) → WalksTo caller.now (S.state s.old) walked.now old new
+    requires { (old : List ℕ) × (new : List ℕ) × WalksTo caller.now (S.state s.old) walked.now true old new }
+    ensures { (old new : List ℕ) → WalksTo caller.now (S.state s.old) walked.now true old new
         → PerformsFor caller.now (Link old new) (S.state s.old) (S.state s.new) result }
 {
     let (ino, inode, directory) = check_link(s, caller, walked)?;
@@ -471,13 +470,13 @@ fn link_walked<S: Sectors>(s: &mut S, caller: &Caller, walked: &WalkedBoth) -> C
 
 /// Gives what the path `old` leads to the name that the path `new` ends in, too: a file, or a symbolic link itself.
 ///
-/// EPERM: `old` leads to a directory, or ends in no name. ENOENT: it leads to nothing, or `new` ends in a slash. ENOTDIR: `old`
+/// EPERM: `old` leads to a directory, or ends in no name. ENOENT: it leads to nothing, or to a file without names, or `new` ends in a slash. ENOTDIR: `old`
 /// ends in a slash. EEXIST: there is something of the new name, or `new` ends in no name. EMLINK: there are
 /// [`fs_layout::Version::max_inode_names`] names already.
 pub fn link<S: Sectors>(s: &mut S, caller: &Caller, old: &Path, new: &Path) -> CallResult
     requires ready { IsReadyFor caller.now (S.state s.old) }
     ensures { PerformsFor caller.now (Link old.now new.now) (S.state s.old) (S.state s.new) result }
 {
-    let walked = walk_both(s, caller, old, new)?;
+    let walked = walk_both(s, caller, old, new, true)?;
     link_walked(s, caller, &walked)
 }

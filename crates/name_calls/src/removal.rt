@@ -79,11 +79,11 @@ fn check_removal<S: Sectors>(
 ) -> Result<(u32, Inode), Refusal>
     requires { ShowsTree caller.now.geometry (S.state s.old) (λ t. IsNamedThere t walked.now.found) }
     ensures { TellsTree caller.now.geometry (λ t. IsNamedThere t walked.now.found)
-        (λ t. refused_or (first_of (removal_asked walked.now.process.now.cred t walked.now.found))
+        (λ t. refused_or (first_of (removal_asked walked.now.process.cred t walked.now.found))
         (Ok (found_ino walked.now.found, inode_at caller.now.geometry (S.state s.old).sectors (found_ino walked.now.found))))
         (S.state s.old) (S.state s.new) result }
 {
-    let process = walked.process;
+    let process = &walked.process;
     let found = &walked.found;
     let (ino, inode) = inode_found(s, caller.geometry, found)?;
     check_slash(found, inode.kind)?;
@@ -128,10 +128,10 @@ fn check_target<S: Sectors>(
     what: Target,
 ) -> Result<(u32, Inode), Refusal>
     requires { HasState caller.now.geometry (S.state s.old) (FindsName caller.now.geometry (S.state s.old).sectors caller.now.procs.now
-        walked.now.process.now walked.now.found) }
+        walked.now.process walked.now.found) }
     ensures { TellsOf (FindsName caller.now.geometry (S.state s.old).sectors caller.now.procs.now
-        walked.now.process.now walked.now.found)
-        (λ st. refused_or (first_of (removal_demands what (scene_at st walked.now.process.now walked.now.found)))
+        walked.now.process walked.now.found)
+        (λ st. refused_or (first_of (removal_demands what (scene_at st walked.now.process walked.now.found)))
         (Ok (found_ino walked.now.found, inode_at caller.now.geometry (S.state s.old).sectors (found_ino walked.now.found))))
         (S.state s.old) (S.state s.new) result }
 {
@@ -186,7 +186,7 @@ fn remove_target<S: Sectors>(s: &mut S, caller: &Caller, path: &Path, what: Targ
     requires ready { IsReadyFor caller.now (S.state s.old) }
     ensures { PerformsFor caller.now (removal_call what path.now) (S.state s.old) (S.state s.new) result }
 {
-    let walked = walk_path(s, caller, Ok(()), path, Form::Parent)?;
+    let walked = walk_path(s, caller, Ok(()), path, false, Form::Parent)?;
     remove_walked(s, caller, &walked, what)
 }
 

@@ -1,7 +1,7 @@
 //! Names that change: POSIX.1-2017, rename(). What it asks of both names, of what it replaces and of the way up from a
 //! directory, and what it then changes.
 
-ghost use Rattle.std.specs.Prelude.{◌≡◌, ◌||◌, ℕ, List, Ok, ◌-◌, Option, Some, None, length, IfErr};
+ghost use Rattle.std.specs.Prelude.{◌≡◌, false, ◌||◌, ℕ, List, Ok, ◌-◌, Option, Some, None, length, IfErr};
 ghost use Rattle.fs_layout.specs.Images.{inode_at};
 ghost use Rattle.fs_model.specs.Demands.{first_of};
 ghost use Rattle.fs_model.specs.RenameCall.{rename_demands, rename_permissions, rename_moved, rename_space};
@@ -36,7 +36,7 @@ use fs_cred::{Errno, Refusal};
 use fs_layout::{Geometry, Inode, Kind, ROOT};
 use fs_model::{Found, Last, Path, Reply, Touch};
 use inode_table::save;
-use open_files::{Process, Procs};
+use open_files::{Judged, Procs};
 use path_walk::load_inode;
 use posix_acl::Perms;
 use sector_txn::Sectors;
@@ -207,8 +207,8 @@ fn check_rename<S: Sectors>(
 
 // Renames what both paths have led to.
 fn rename_walked<S: Sectors>(s: &mut S, caller: &Caller, walked: &WalkedBoth) -> CallResult
-    requires { (old : List ℕ) × (new : List ℕ) × WalksTo caller.now (S.state s.old) walked.now old new }
-    ensures { (old new : List ℕ) → WalksTo caller.now (S.state s.old) walked.now old new
+    requires { (old : List ℕ) × (new : List ℕ) × WalksTo caller.now (S.state s.old) walked.now false old new }
+    ensures { (old new : List ℕ) → WalksTo caller.now (S.state s.old) walked.now false old new
         → PerformsFor caller.now (Rename old new) (S.state s.old) (S.state s.new) result }
 {
     let (ino, inode, replaced) = check_rename(s, caller, walked)?;
@@ -231,7 +231,7 @@ pub fn rename<S: Sectors>(s: &mut S, caller: &Caller, old: &Path, new: &Path) ->
     requires ready { IsReadyFor caller.now (S.state s.old) }
     ensures { PerformsFor caller.now (Rename old.now new.now) (S.state s.old) (S.state s.new) result }
 {
-    let walked = walk_both(s, caller, old, new)?;
+    let walked = walk_both(s, caller, old, new, false)?;
     rename_walked(s, caller, &walked)
 }
 
@@ -244,7 +244,7 @@ const WRITE: Perms = Perms {
 
 // Asks whether a directory with S_ISVTX lets the caller take what is replaced, where something is.
 fn check_sticky_there(
-    process: &Process,
+    process: &Judged,
     found: &Found,
     directory: &Inode,
     replaced: &Option<(u32, Inode)>,
@@ -272,7 +272,7 @@ fn check_permissions<S: Sectors>(
         (λ st. refused_or (first_of (rename_permissions (scene_walked walked.now st)))
         (Ok (inode_at caller.now.geometry (S.state s.old).sectors walked.now.second.dir_ino))) (S.state s.old) (S.state s.new) result }
 {
-    let process = walked.process;
+    let process = &walked.process;
     let first = &walked.first;
     let second = &walked.second;
     let directory = ask_directory(s, caller, process, first, 1)?;

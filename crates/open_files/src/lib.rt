@@ -6,4 +6,4 @@
 
 mod procs;
 
-pub use procs::{Descriptor, MAX_DESCRIPTORS, MAX_PROCESSES, Process, Procs};
+pub use procs::{Descriptor, Judged, MAX_DESCRIPTORS, MAX_PROCESSES, Process, Procs};

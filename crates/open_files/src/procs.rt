@@ -9,10 +9,13 @@ ghost use Rattle.fs_layout.specs.Maps.{get, with_entry, without};
 ghost use Rattle.fs_model.specs.Limits.{descriptors_limit, processes_limit};
 ghost use Rattle.open_files.specs.Tables.{AreDescriptors, lowest, answer_of, open_in, slot_in, IsUnused, with_changed, without_descriptor, IsTable};
 ghost use Rattle.fs_model.specs.Processes.{new_process, IsNewPid, standing_at, starts_at, descriptor, with_descriptor, with_offset, is_open, is_in_use};
+ghost use Rattle.fs_cred.specs.Credentials.{IsCredential};
+ghost use Rattle.fs_model.specs.Actors.{judged_as};
 ghost use Rattle.fs_cred.specs.declared.errno.Errno.TheVariants.{ESRCH, EAGAIN, ENOMEM};
 
 use fs_cred::{Cred, Errno};
 use fs_layout::ROOT;
+use fs_model::Actor;
 use slab::Slab;
 use std::alloc::Global;
 use std::marker::Model;
@@ -311,6 +314,93 @@ impl Process {
         ensures { result ≡ list_any (λ d. d.1.ino == ino) (without nat_cmp self.now.descriptors fd) }
     {
         self.descriptors.has_besides(fd, ino)
+    }
+}
+
+/// Who is judged: a process, or an actor.
+#[derive(Clone, Copy)]
+enum Held<'a> {
+    Process(&'a Process),
+    Actor(&'a Actor),
+}
+
+/// As which process a call is judged: as the process that makes it, or, where an actor does, at the root and with nothing open. The
+/// credential is lent.
+#[derive(Drop)]
+pub struct Judged<'a> {
+    held: Held<'a>,
+}
+
+impl<'a> Model for Judged<'a> {
+    ghost use Rattle.fs_model.specs.Processes.{Process as Running};
+
+    ghost Value = { Running };
+
+    ghost use Rattle.open_files.specs.Judging.{held_process};
+
+    ghost view = { λ j. held_process j.held };
+}
+
+impl<'a> Judged<'a> {
+    /// A process, as itself.
+    pub fn process(process: &'a Process) -> Judged<'a>
+        ensures { result ≡ process.now }
+    {
+        Judged {
+            held: Held::Process(process),
+        }
+    }
+
+    /// An actor.
+    pub fn actor(actor: &'a Actor) -> Judged<'a>
+        ensures judged { result ≡ judged_as actor.now }
+        ensures cred { IsCredential actor.now.cred }
+    {
+        let cred = &actor.cred;
+        let _groups = cred.groups();
+        Judged {
+            held: Held::Actor(actor),
+        }
+    }
+
+    /// Who it is.
+    pub fn cred(&self) -> &'a Cred
+        ensures { result.now ≡ self.now.cred }
+    {
+        match self.held {
+            Held::Process(process) => process.cred(),
+            Held::Actor(actor) => &actor.cred,
+        }
+    }
+
+    /// The permission bits that a new file or directory lacks, unless its directory has a default ACL.
+    pub fn umask(&self) -> u16
+        ensures { result ≡ self.now.umask }
+    {
+        match self.held {
+            Held::Process(process) => process.umask(),
+            Held::Actor(actor) => actor.umask % 512,
+        }
+    }
+
+    /// The inode of the current directory.
+    pub fn cwd(&self) -> u32
+        ensures { result ≡ self.now.cwd }
+    {
+        match self.held {
+            Held::Process(process) => process.cwd(),
+            Held::Actor(_) => ROOT,
+        }
+    }
+
+    /// The inode of the directory in which the second path of rename and link starts.
+    pub fn second_cwd(&self) -> u32
+        ensures { result ≡ self.now.second_cwd }
+    {
+        match self.held {
+            Held::Process(process) => process.second_cwd(),
+            Held::Actor(_) => ROOT,
+        }
     }
 }
 

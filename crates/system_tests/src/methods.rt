@@ -4,7 +4,7 @@
 use crate::mounts::{TestDisk, call_of, new_fs};
 use fs_cred::{Cred, Errno, Refusal};
 use fs_layout::Version;
-use fs_model::{Bytes, Call, Reply};
+use fs_model::{Actor, Bytes, Call, Reply};
 use fs_system::Fs;
 use sector_disk::Disk;
 use std::alloc::Global;
@@ -127,6 +127,72 @@ fn a_halted_one_calls_its_disk_no_more(rt: HostRuntime) -> Result<(), Fail> {
     ] {
         let found = seen(rt.alloc(), calls)?;
         assert!(rt; found == wanted, "{calls}: {found:?}");
+    }
+    Ok(())
+}
+
+// ---- what an actor is answered
+
+// Where its paths start, and the line of its call.
+type Asked = (u32, u32, &'static [u8]);
+
+// What an actor is told that has the identity of user 0. The root is inode 1, `/d` 2, `/file` 3 and `/link` 4.
+fn called_at(alloc: Global, fs: &mut Fs<TestDisk>, asked: Asked) -> Result<Told, Fail> {
+    let (start, second_start, line) = asked;
+    let call = call_of(alloc, line)?;
+    let cred = Cred::new(alloc, 0, 0, &[])?;
+    let actor = Actor {
+        cred,
+        umask: 0o22,
+        start,
+        second_start,
+    };
+    let reply = fs.call_at(&actor, &call);
+    call.discard();
+    mem::drop(actor);
+    let told = told(&reply);
+    reply.discard();
+    Ok(told)
+}
+
+fn made_and_called(alloc: Global, fs: &mut Fs<TestDisk>, asked: Asked) -> Result<Told, Fail> {
+    let _pid = spawned(alloc, fs)?;
+    let _dir = called(fs, call_of(alloc, b"1 mkdir /d 0755")?);
+    let _fd = opened(alloc, fs)?;
+    let _link = called(fs, call_of(alloc, b"1 symlink file /link")?);
+    called_at(alloc, fs, asked)
+}
+
+fn told_from(alloc: Global, asked: Asked) -> Result<Told, Fail> {
+    let mut fs = new_fs(alloc, Version::Two, u64::MAX)?;
+    let told = made_and_called(alloc, &mut fs, asked);
+    mem::drop(fs.unmount());
+    told
+}
+
+// As openat(2) has AT_EMPTY_PATH, fchmodat(2) a link and linkat(2) its two directories.
+static FROM_OBJECTS: [(Asked, Told); 14] = [
+    ((1, 1, b"1 chmod file 0600"), Ok(0)),
+    ((3, 1, b"1 chmod \"\" 0600"), Ok(0)),
+    ((4, 1, b"1 chmod \"\" 0600"), Err(40)),
+    ((4, 1, b"1 chown \"\" 0 0"), Ok(0)),
+    ((64, 1, b"1 chmod file 0600"), Err(2)),
+    ((1, 64, b"1 chmod file 0600"), Err(2)),
+    ((3, 1, b"1 chmod name 0600"), Err(20)),
+    ((3, 2, b"1 link \"\" name"), Ok(0)),
+    ((1, 2, b"1 rename file name"), Ok(0)),
+    ((2, 1, b"1 rmdir \"\""), Err(16)),
+    ((1, 1, b"1 open file r"), Err(9)),
+    ((1, 1, b"1 chdir d"), Err(9)),
+    ((1, 1, b"1 close 0"), Err(9)),
+    ((1, 1, b"1 umask 0"), Err(9)),
+];
+
+#[test]
+fn an_actor_calls_from_objects(rt: HostRuntime) -> Result<(), Fail> {
+    for &(asked, wanted) in &FROM_OBJECTS {
+        let found = told_from(rt.alloc(), asked)?;
+        assert!(rt; found == wanted, "{asked:?}: {found:?}");
     }
     Ok(())
 }

@@ -26,7 +26,7 @@ pub returns-in_err-rule-clause-performs : goal.returns-in_err-rule-clause-perfor
 returns-in_err-rule-clause-performs g c =
     let x = c.in_ok-reached.ensures in
     let f = c.in_ok-reached.reached.found in
-    let q = c.in_ok-reached.reached.process.now in
+    let q = c.in_ok-reached.reached.process in
     let mid = g.S.Sectors.state c.reach.new.s in
     let last = g.S.Sectors.state c.permitted.new.s in
     let r = c.from_residual-in_err-rule.ensures in
@@ -46,7 +46,7 @@ returns-clause-performs g c =
     let mid = g.S.Sectors.state c.reach.new.s in
     let x = c.in_ok-reached.ensures in
     let f = c.in_ok-reached.reached.found in
-    let q = c.in_ok-reached.reached.process.now in
+    let q = c.in_ok-reached.reached.process in
     let n = c.in_ok-reached.reached.ino in
     let rule = c.in_ok-rule.rule in
     told (access_by_path c.args.path.now c.args.want) x.same x.reached.walked (g.S.Sectors.state c.permitted.new.s) c.in_ok-rule.ensures.same (Granted rule)

@@ -19,4 +19,4 @@ returns-clause-performs g c = λ call is.
     let x = c.in_ok-reached.ensures in
     let v = c.in_ok-reached.reached in
     told is x.same x.reached.walked (g.S.Sectors.state c.reach.new.s) unchanged_nothing (Shown c.status.result)
-    (λ s has at. stat_told s v.process.now v.found v.ino v.inode c.status.result x.reached.inode (state_tree at) (reached_there x.reached s at) c.status.ensures)
+    (λ s has at. stat_told s v.process v.found v.ino v.inode c.status.result x.reached.inode (state_tree at) (reached_there x.reached s at) c.status.ensures)

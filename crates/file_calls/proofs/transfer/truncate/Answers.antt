@@ -52,7 +52,7 @@ returns-in_err-permitted g c =
     asked_refused (truncate_by_path c.args.path.now c.args.size) x.same x.reached.walked new c.from_residual-in_err-permitted.result e r.0 r.1 c.in_err-permitted.ensures.same.store {A = ℕ} 0
     (λ s has at.
     let a = followed_access c.in_ok-reached.reached.ino at has i.some in
-    write_refused at has i.some i.number i.inode c.args.size i.met file (verdict c.in_ok-reached.reached.process.now.cred a.access (perms false true false)).rule 0 e mid.disk new.disk
+    write_refused at has i.some i.number i.inode c.args.size i.met file (verdict c.in_ok-reached.reached.process.cred a.access (perms false true false)).rule 0 e mid.disk new.disk
     (permission_refused {mid = mid} {new = mid} at has i unchanged_nothing c.cred-cred.result.now c.cred-cred.ensures (perms false true false) e new.disk
     (c.in_err-permitted.ensures.each a.access (access_held {mid = mid} {new = mid} at has i unchanged_nothing))))
 

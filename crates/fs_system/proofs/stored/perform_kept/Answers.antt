@@ -1,8 +1,7 @@
-use Rattle.std.proofs.Common.{refl}
-use Rattle.fs_model.specs.declared.event.Event.TheVariants.{Call as Calls}
 use Rattle.fs_model.specs.declared.reply.Reply.TheVariants.{Refused}
+use Rattle.call_parts.specs.Callers.{event, who_of}
 use Rattle.call_parts.specs.Performing.{IsRefused}
-use Rattle.fs_system.proofs.Endings.{call_performed, refused_steps, why_failed}
+use Rattle.fs_system.proofs.Endings.{performs_event, call_unstable, refused_steps, why_failed}
 use Rattle.fs_system.proofs.Kept.{begins, kept_does, broken_does, refused_does}
 use Rattle.fs_system.proofs.stored.perform_kept.Goals as goal
 
@@ -15,8 +14,8 @@ perform-requires g c = record {
 pub returns-in-Ok-keep : goal.returns-in-Ok-keep
 returns-in-Ok-keep g c = record {
   does = λ s r told. kept_does g.D.Disk.state c.args.geometry c.args.store c.args.procs.now c.begin-txn.result.0 c.begin-txn.ensures.disk c.begin-txn.ensures.map c.begin-txn.ensures.before
-      c.perform.new.s c.in-Ok.ensures.store s r (g.met.D.Disk.only_now c.args.store.disk) c.in-Ok.ensures.super c.perform.new.procs (Calls c.args.pid c.args.call.now) c.in-Ok.reply
-      (λ at. call_performed at told c.call_is_in_range.ensures (c.in-Ok.ensures.each s at)) c.in-Ok-keep.store
+      c.perform.new.s c.in-Ok.ensures.store s r (g.met.D.Disk.only_now c.args.store.disk) c.in-Ok.ensures.super c.perform.new.procs (event (who_of c.args.by) c.args.call.now) c.in-Ok.reply
+      (λ at. performs_event (who_of c.args.by) at told c.credential_is_in_range.ensures c.call_is_in_range.ensures (c.in-Ok.ensures.each s at)) c.in-Ok-keep.store
       c.in-Ok-keep.ensures.map c.in-Ok-keep.ensures.images c.in-Ok-keep.ensures.cause.later c.in-Ok-keep.ensures.told.quiet;
 }
 
@@ -25,8 +24,8 @@ returns-in-Err-keep g c = record {
   does = λ s r told.
       let broke = c.in-Err-keep.ensures in
       broken_does g.D.Disk.state c.args.geometry c.args.store c.args.procs.now c.begin-txn.result.0 c.begin-txn.ensures.disk c.begin-txn.ensures.map c.begin-txn.ensures.before
-      c.perform.new.s c.in-Ok.ensures.store s r (g.met.D.Disk.only_now c.args.store.disk) c.in-Ok.ensures.super c.perform.new.procs (Calls c.args.pid c.args.call.now) c.in-Ok.reply
-      (λ at. call_performed at told c.call_is_in_range.ensures (c.in-Ok.ensures.each s at)) c.in-Err-keep.broken
+      c.perform.new.s c.in-Ok.ensures.store s r (g.met.D.Disk.only_now c.args.store.disk) c.in-Ok.ensures.super c.perform.new.procs (event (who_of c.args.by) c.args.call.now) c.in-Ok.reply
+      (λ at. performs_event (who_of c.args.by) at told c.credential_is_in_range.ensures c.call_is_in_range.ensures (c.in-Ok.ensures.each s at)) c.in-Err-keep.broken
       broke.images broke.cause.later broke.cause.fault broke.told.fault c.failed.result c.failed.ensures;
 }
 
@@ -37,8 +36,8 @@ returns-in-Err g c = record {
       let why = c.in-Err.refusal in
       refused_does g.D.Disk.state c.args.geometry c.args.store c.args.procs.now c.begin-txn.result.0 c.begin-txn.ensures.disk c.begin-txn.ensures.map c.begin-txn.ensures.before
       c.perform.new.s c.in-Err.ensures.store c.drop_delta.result c.drop_delta.ensures.disk c.drop_delta.ensures.map s r c.perform.new.procs c.in-Err.ensures.table
-      (g.met.D.Disk.only_now c.args.store.disk) (λ old new. IsRefused old new s c.args.pid call why) (c.in-Err.ensures.each s) (Calls c.args.pid call) (Refused why)
-      (λ old new. refused_steps old new s c.args.pid call why) refl (λ old new. why_failed old new s c.args.pid call why);
+      (g.met.D.Disk.only_now c.args.store.disk) (λ old new. IsRefused old new s (who_of c.args.by) call why) (c.in-Err.ensures.each s) (event (who_of c.args.by) call) (Refused why)
+      (λ old new. refused_steps old new s (who_of c.args.by) call why) (call_unstable (who_of c.args.by) call (Refused why)) (λ old new. why_failed old new s (who_of c.args.by) call why);
 }
 
 pub keep-requires : goal.keep-requires

@@ -4,7 +4,8 @@ use Rattle.bit_alloc.proofs.Transactions.{unchanged_joined}
 use Rattle.fs_model.specs.declared.reply.FileType.{FileType}
 use Rattle.path_walk.specs.HeldTrees.{HoldsTree}
 use Rattle.path_walk.proofs.Kept.{kept, sound_kept}
-use Rattle.name_calls.specs.Enters.{type_in, both_directories}
+use Rattle.call_parts.specs.Types.{type_in}
+use Rattle.name_calls.specs.Enters.{both_directories}
 use Rattle.name_calls.proofs.Enterings.{asked_of_both}
 use Rattle.name_calls.proofs.entering.ask_of_both.Goals as goal
 

@@ -51,7 +51,7 @@ returns-in_err-directory g c = record {
   each = λ st i.
       let p = c.args.caller.now.geometry in
       let h = c.args.walked.now.second in
-      let q = c.args.walked.now.process.now in
+      let q = c.args.walked.now.process in
       let same = c.in_ok-ino.ensures.same in
       let source = source_inode st.tree c.args.walked.now.first p (g.S.Sectors.state c.args.s.now).sectors (c.in_ok-ino.ensures.each st.tree (state_tree i.is_state) (first_there i)) in
       let name = (is_link_name h (sym c.in_ok-check_link_name.ensures)).0 in
@@ -73,8 +73,8 @@ returns g c = record {
       let told = c.in_ok-ino.ensures.each st.tree (state_tree i.is_state) (first_there i) in
       let source = source_inode st.tree f p old told in
       let name = (is_link_name h (sym c.in_ok-check_link_name.ensures)).0 in
-      let last = met_ok {A = Inode} (first_of (place_asked p old c.args.walked.now.process.now.cred st.tree h.dir_ino (h.step - 1) c.in_ok-ino.inode.names)) (inode_at p old h.dir_ino) c.in_ok-directory.directory
-      (kept_back (λ (m : SectorMap). refused_or {A = Inode} (first_of (place_asked p m c.args.walked.now.process.now.cred st.tree h.dir_ino (h.step - 1) c.in_ok-ino.inode.names)) (Ok (inode_at p m h.dir_ino)) ≡ Ok c.in_ok-directory.directory)
+      let last = met_ok {A = Inode} (first_of (place_asked p old c.args.walked.now.process.cred st.tree h.dir_ino (h.step - 1) c.in_ok-ino.inode.names)) (inode_at p old h.dir_ino) c.in_ok-directory.directory
+      (kept_back (λ (m : SectorMap). refused_or {A = Inode} (first_of (place_asked p m c.args.walked.now.process.cred st.tree h.dir_ino (h.step - 1) c.in_ok-ino.inode.names)) (Ok (inode_at p m h.dir_ino)) ≡ Ok c.in_ok-directory.directory)
       same (c.in_ok-directory.ensures.each st.tree (tree_kept same (state_tree i.is_state)) (name_dir i name))) in
       answered_ok (link_asked_met i source.0 name source.1 last.0)
       (ap (λ (x : ℕ × Inode). (x.0, x.1, inode_at p old h.dir_ino)) (met_ok {A = ℕ × Inode} _ _ _ told).1 ∙ ap (λ (w : Inode). (c.in_ok-ino.ino, c.in_ok-ino.inode, w)) last.1);

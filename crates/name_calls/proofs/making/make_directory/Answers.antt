@@ -61,7 +61,7 @@ place_directory-requires g c =
         spare = spare_unchanged c.args.caller.now.geometry 47 (g.S.Sectors.state c.args.s.now) (g.S.Sectors.state c.default_of.new.s) c.requires.spare joined;
       };
       directory = kept (λ (m : SectorMap). v ≡ inode_at c.args.caller.now.geometry m c.args.walked.now.found.dir_ino) joined met.1;
-      may = may_then c.args.caller.now.geometry x.1 c.args.walked.now.found x.2 joined c.args.walked.now.process.now.cred met.0;
+      may = may_then c.args.caller.now.geometry x.1 c.args.walked.now.found x.2 joined c.args.walked.now.process.cred met.0;
       bits = subst (λ (k : ℕ). k < 2048) (sym c.special_bits-bits.ensures) (bits_below (c.args.mode / S_ISVTX % 2 == 1) (v.mode / S_ISGID % 2 == 1));
     }
 
@@ -79,7 +79,7 @@ returns g c =
     let old = g.S.Sectors.state c.args.s.now in
     let v = c.in_ok-directory.directory in
     let f = c.args.walked.now.found in
-    let q = c.args.walked.now.process.now in
+    let q = c.args.walked.now.process in
     let mode = c.args.mode in
     let a = c.in_ok-access.access in
     let met = allowed p old.sectors t f c.cred-cred.ensures c.saturating_sub-step.ensures (inode_at p old.sectors f.dir_ino) v (c.in_ok-directory.ensures.each t h i.directory) in

@@ -28,7 +28,7 @@ place_link-requires g c =
     record {
       ready = record { sound = sound_kept same ready.sound; spare = spare_unchanged p 47 (g.S.Sectors.state c.args.s.now) (g.S.Sectors.state c.check_make.new.s) ready.spare same };
       directory = kept (λ (m : SectorMap). c.in_ok-directory.directory ≡ inode_at p m f.dir_ino) same met.1;
-      may = may_then p x.1 f x.2 same c.args.walked.now.process.now.cred met.0;
+      may = may_then p x.1 f x.2 same c.args.walked.now.process.cred met.0;
       target = subst IsTarget (sym c.bytes-bytes.ensures.all) c.requires.target;
     }
 
@@ -45,6 +45,6 @@ returns g c = makes_node c.in_ok-ino.ino c.in_ok-directory.ensures.same c.in_ok-
     let f = c.args.walked.now.found in
     let met = allowed p (g.S.Sectors.state c.args.s.now).sectors t f c.cred-cred.ensures c.saturating_sub-step.ensures _ _ (c.in_ok-directory.ensures.each t h i.directory) in (
       met.0,
-      link_is h i c.in_ok-directory.directory met.1 c.args.walked.now.process.now.cred c.cred-cred.result.now c.args.target.now c.bytes-bytes.result.now
+      link_is h i c.in_ok-directory.directory met.1 c.args.walked.now.process.cred c.cred-cred.result.now c.args.target.now c.bytes-bytes.result.now
           c.cred-cred.ensures c.bytes-bytes.ensures.all,
     ))

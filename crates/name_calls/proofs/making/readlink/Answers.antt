@@ -59,7 +59,7 @@ returns-clause-performs g c =
     let right = target_of (state_tree at) v.found v.ino v.inode i there in
     let answer = target_told (state_tree at) v.found v.ino v.inode i there is target
     (same_ok right target (c.in_ok-target.ensures.each right (target_holds (state_tree at) v.found v.ino v.inode i there is))) in
-    (answer.0, ap (λ (y : List ℕ). answers (scene_at s v.process.now v.found) (Target y)) answer.1))
+    (answer.0, ap (λ (y : List ℕ). answers (scene_at s v.process v.found) (Target y)) answer.1))
 
 pub returns-clause-same : goal.returns-clause-same
 returns-clause-same g c = unchanged_joined c.in_ok-reached.ensures.same c.in_ok-target.ensures.same

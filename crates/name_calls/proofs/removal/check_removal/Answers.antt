@@ -18,7 +18,7 @@ returns-in_err-check_slash g c = record {
       let old = g.S.Sectors.state c.args.s.now in
       let i = is_inode c.args.caller.now.geometry old.sectors c.args.walked.now.found c.in_ok-ino.ino c.in_ok-ino.inode c.in_ok-ino.ensures.each in
       refused_by old.disk (g.S.Sectors.state c.inode_found.new.s).disk _ _ _ c.from_residual-in_err-check_slash.ensures
-      (removal_slashed h named c.args.walked.now.process.now.cred i) (sym c.in_err-check_slash.ensures);
+      (removal_slashed h named c.args.walked.now.process.cred i) (sym c.in_err-check_slash.ensures);
   same = c.in_ok-ino.ensures.same;
 }
 
@@ -34,7 +34,7 @@ returns-in_err-directory g c = record {
       let same = c.in_ok-ino.ensures.same in
       let i = is_inode c.args.caller.now.geometry (g.S.Sectors.state c.args.s.now).sectors c.args.walked.now.found c.in_ok-ino.ino c.in_ok-ino.inode c.in_ok-ino.ensures.each in
       passed_later (g.S.Sectors.state c.ask_directory.new.s).disk _ _ _ c.from_residual-in_err-directory.ensures same
-      (removal_denied h named c.args.walked.now.process.now.cred i (sym c.in_ok-check_slash.ensures)) _ (c.in_err-directory.ensures.each t (tree_kept same h) named.directory);
+      (removal_denied h named c.args.walked.now.process.cred i (sym c.in_ok-check_slash.ensures)) _ (c.in_err-directory.ensures.each t (tree_kept same h) named.directory);
   same = unchanged_joined c.in_ok-ino.ensures.same c.in_err-directory.ensures.same;
 }
 
@@ -46,7 +46,7 @@ returns-in_err-check_sticky g c = record {
       let i = is_inode c.args.caller.now.geometry old.sectors c.args.walked.now.found c.in_ok-ino.ino c.in_ok-ino.inode c.in_ok-ino.ensures.each in
       let d = directory_met c.args.caller.now.geometry c.args.walked.now.found.dir_ino _ same (c.in_ok-directory.ensures.each t (tree_kept same h) named.directory) in
       refused_by old.disk (g.S.Sectors.state c.ask_directory.new.s).disk _ _ _ c.from_residual-in_err-check_sticky.ensures
-      (removal_sticky h named c.args.walked.now.process.now.cred i (sym c.in_ok-check_slash.ensures) d.0 d.1) (sym c.in_err-check_sticky.ensures);
+      (removal_sticky h named c.args.walked.now.process.cred i (sym c.in_ok-check_slash.ensures) d.0 d.1) (sym c.in_err-check_sticky.ensures);
   same = unchanged_joined c.in_ok-ino.ensures.same c.in_ok-directory.ensures.same;
 }
 
@@ -56,7 +56,7 @@ returns g c = record {
       let i = is_inode c.args.caller.now.geometry (g.S.Sectors.state c.args.s.now).sectors c.args.walked.now.found c.in_ok-ino.ino c.in_ok-ino.inode c.in_ok-ino.ensures.each in
       let same = c.in_ok-ino.ensures.same in
       let d = directory_met c.args.caller.now.geometry c.args.walked.now.found.dir_ino _ same (c.in_ok-directory.ensures.each t (tree_kept same h) named.directory) in
-      answered_ok (removal_met h named c.args.walked.now.process.now.cred i (sym c.in_ok-check_slash.ensures) d.0 d.1 (sym c.in_ok-check_sticky.ensures))
+      answered_ok (removal_met h named c.args.walked.now.process.cred i (sym c.in_ok-check_slash.ensures) d.0 d.1 (sym c.in_ok-check_sticky.ensures))
       (met_ok _ _ _ c.in_ok-ino.ensures.each).1;
   same = unchanged_joined c.in_ok-ino.ensures.same c.in_ok-directory.ensures.same;
 }

@@ -17,9 +17,9 @@ abbrev Names : (g : given.Over) → goal.After-check_moved g → State → Type 
 Names g c = Renames c.args.caller.now (g.S.Sectors.state c.args.s.now).sectors c.args.walked.now c.args.ino c.args.inode.now c.args.replaced.now
 
 -- what is met before the last two parts
-met : (g : given.Over) (c : goal.After-check_moved g) (st : State) → Names g c st → MeetsThree st c.args.walked.now.process.now c.args.walked.now.first c.args.walked.now.second
+met : (g : given.Over) (c : goal.After-check_moved g) (st : State) → Names g c st → MeetsThree st c.args.walked.now.process c.args.walked.now.first c.args.walked.now.second
 met g c st r =
-    three_parts r c.args.walked.now.process.now (c.in_ok-to_directory.ensures.each st (c.args.ino, r)) (sym c.in_ok-check_kinds.ensures)
+    three_parts r c.args.walked.now.process (c.in_ok-to_directory.ensures.each st (c.args.ino, r)) (sym c.in_ok-check_kinds.ensures)
     (c.in_ok-check_below.ensures.each st.tree (tree_kept c.in_ok-to_directory.ensures.same (state_tree r.is_state)) r.second.directory)
     (sym (c.in_ok-check_replaced.ensures c.args.caller.now.geometry (g.S.Sectors.state c.args.s.now).sectors st.tree c.args.walked.now.second (state_tree r.is_state) r.second.found r.replaced_is))
 
@@ -30,7 +30,7 @@ pub returns-in_err-to_directory : goal.returns-in_err-to_directory
 returns-in_err-to_directory g c = record {
   each = λ st r.
       passed (g.S.Sectors.state c.args.s.now).disk (g.S.Sectors.state c.check_permissions.new.s).disk _ _ _ c.from_residual.ensures
-      (permissions_refuse r c.args.walked.now.process.now) _ (c.in_err-to_directory.ensures.each st (c.args.ino, r));
+      (permissions_refuse r c.args.walked.now.process) _ (c.in_err-to_directory.ensures.each st (c.args.ino, r));
   same = c.in_err-to_directory.ensures.same;
 }
 
@@ -38,7 +38,7 @@ pub returns-in_err-check_kinds : goal.returns-in_err-check_kinds
 returns-in_err-check_kinds g c = record {
   each = λ st r.
       refused_by (g.S.Sectors.state c.args.s.now).disk (g.S.Sectors.state c.check_permissions.new.s).disk _ _ _ c.from_residual-in_err-check_kinds.ensures
-      (kinds_refuse r c.args.walked.now.process.now (c.in_ok-to_directory.ensures.each st (c.args.ino, r))) (sym c.in_err-check_kinds.ensures);
+      (kinds_refuse r c.args.walked.now.process (c.in_ok-to_directory.ensures.each st (c.args.ino, r))) (sym c.in_err-check_kinds.ensures);
   same = c.in_ok-to_directory.ensures.same;
 }
 
@@ -54,7 +54,7 @@ returns-in_err-check_below g c =
     record {
       each = λ st r.
           passed_later (g.S.Sectors.state c.check_below.new.s).disk _ _ _ c.from_residual-in_err-check_below.ensures same
-          (below_refuses r c.args.walked.now.process.now (c.in_ok-to_directory.ensures.each st (c.args.ino, r)) (sym c.in_ok-check_kinds.ensures)) tt
+          (below_refuses r c.args.walked.now.process (c.in_ok-to_directory.ensures.each st (c.args.ino, r)) (sym c.in_ok-check_kinds.ensures)) tt
           (c.in_err-check_below.ensures.each st.tree (tree_kept same (state_tree r.is_state)) r.second.directory);
       same = unchanged_joined same c.in_err-check_below.ensures.same;
     }
@@ -67,7 +67,7 @@ returns-in_err-check_replaced g c =
           let old = g.S.Sectors.state c.args.s.now in
           let h = state_tree r.is_state in
           refused_by old.disk (g.S.Sectors.state c.check_below.new.s).disk _ _ _ c.from_residual-in_err-check_replaced.ensures
-          (replaced_refuses r c.args.walked.now.process.now (c.in_ok-to_directory.ensures.each st (c.args.ino, r)) (sym c.in_ok-check_kinds.ensures)
+          (replaced_refuses r c.args.walked.now.process (c.in_ok-to_directory.ensures.each st (c.args.ino, r)) (sym c.in_ok-check_kinds.ensures)
           (c.in_ok-check_below.ensures.each st.tree (tree_kept same h) r.second.directory))
           (sym (c.in_err-check_replaced.ensures c.args.caller.now.geometry old.sectors st.tree c.args.walked.now.second h r.second.found r.replaced_is));
       same = unchanged_joined same c.in_ok-check_below.ensures.same;
@@ -97,7 +97,7 @@ check_space-requires g c =
     record {
       sound = sound_kept all c.requires.sound;
       directory = kept (λ (m : SectorMap). c.in_ok-to_directory.to_directory ≡ inode_at c.args.caller.now.geometry m c.args.walked.now.second.dir_ino) all
-          (directory_told x.1 c.args.walked.now.process.now (c.in_ok-to_directory.ensures.each x.0 (c.args.ino, x.1)));
+          (directory_told x.1 c.args.walked.now.process (c.in_ok-to_directory.ensures.each x.0 (c.args.ino, x.1)));
     }
 
 pub returns-in_err-check_space : goal.returns-in_err-check_space

@@ -12,17 +12,17 @@ use Rattle.name_calls.proofs.renaming.check_moved.Goals as goal
 pub returns-then-ne : goal.returns-then-ne
 returns-then-ne g c =
     let other : is_directory_kind c.args.inode.now.kind ≡ false = search rules in
-    record { each = λ st x. ap checked (other_moved x.2 c.args.walked.now.process.now other); same = unchanged_nothing }
+    record { each = λ st x. ap checked (other_moved x.2 c.args.walked.now.process other); same = unchanged_nothing }
 
 pub returns-then-first-second : goal.returns-then-first-second
 returns-then-first-second g c =
-    record { each = λ st x. ap checked (same_moved x.2 c.args.walked.now.process.now c.if-first-second.true); same = unchanged_nothing }
+    record { each = λ st x. ap checked (same_moved x.2 c.args.walked.now.process c.if-first-second.true); same = unchanged_nothing }
 
 pub permitted-requires : goal.permitted-requires
 permitted-requires g c =
     let x = c.requires.found.1 in
     let r = x.2 in
-    let q = c.args.walked.now.process.now in
+    let q = c.args.walked.now.process in
     let kind : c.args.inode.now.kind ≡ kinds.Directory = search rules in
     record {
       sound = c.requires.sound;
@@ -32,7 +32,7 @@ permitted-requires g c =
 
 pub returns-in_err-permitted : goal.returns-in_err-permitted
 returns-in_err-permitted g c =
-    let q = c.args.walked.now.process.now in
+    let q = c.args.walked.now.process in
     let kind : c.args.inode.now.kind ≡ kinds.Directory = search rules in
     record {
       each = λ st x.
@@ -43,7 +43,7 @@ returns-in_err-permitted g c =
 
 pub returns : goal.returns
 returns g c =
-    let q = c.args.walked.now.process.now in
+    let q = c.args.walked.now.process in
     let kind : c.args.inode.now.kind ≡ kinds.Directory = search rules in
     record {
       each = λ st x.

@@ -17,7 +17,7 @@ pub returns-in_err-ino : goal.returns-in_err-ino
 returns-in_err-ino g c = record {
   each = λ st i.
       passed (g.S.Sectors.state c.args.s.now).disk (g.S.Sectors.state c.check_renamed.new.s).disk _ _ _ c.from_residual.ensures
-      (names_refuse st c.args.walked.now.process.now c.args.walked.now.first c.args.walked.now.second) _
+      (names_refuse st c.args.walked.now.process c.args.walked.now.first c.args.walked.now.second) _
       (c.in_err-ino.ensures.each st.tree (state_tree i.is_state) (both_there i));
   same = c.in_err-ino.ensures.same;
 }
@@ -25,7 +25,7 @@ returns-in_err-ino g c = record {
 pub returns-then-is_same : goal.returns-then-is_same
 returns-then-is_same g c = record {
   each = λ st i.
-      let q = c.args.walked.now.process.now in
+      let q = c.args.walked.now.process in
       let told = c.in_ok-ino.ensures.each st.tree (state_tree i.is_state) (both_there i) in
       let r = to_rename i told in
       answered_ok (same_met st q c.args.walked.now.first c.args.walked.now.second r.0 (same_is q r.1 ∙ sym c.is_same.ensures ∙ c.if-is_same.true)) (met_ok _ _ _ told).1;
@@ -45,7 +45,7 @@ check_move-requires g c =
 pub returns-in_err-check_move : goal.returns-in_err-check_move
 returns-in_err-check_move g c = record {
   each = λ st i.
-      let q = c.args.walked.now.process.now in
+      let q = c.args.walked.now.process in
       let same = c.in_ok-ino.ensures.same in
       let r = to_rename i (c.in_ok-ino.ensures.each st.tree (state_tree i.is_state) (both_there i)) in
       passed_later (g.S.Sectors.state c.check_move.new.s).disk _ _ _ c.from_residual-in_err-check_move.ensures same
@@ -59,7 +59,7 @@ returns g c = record {
   each = λ st i.
       let a = c.args.walked.now.first in
       let b = c.args.walked.now.second in
-      let q = c.args.walked.now.process.now in
+      let q = c.args.walked.now.process in
       let told = c.in_ok-ino.ensures.each st.tree (state_tree i.is_state) (both_there i) in
       let r = to_rename i told in
       answered_ok

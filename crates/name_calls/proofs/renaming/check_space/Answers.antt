@@ -20,7 +20,7 @@ returns-in_err-ask_for_name g c = record {
       let e = c.in_err-ask_for_name.field-0.0 in
       let none : is_some w.second.ino ≡ false = sym c.is_some.ensures ∙ c.if-is_some.false in
       answered_err {A = Unit {0}} old.disk new.disk (checked (first_of (rename_space (scene_walked w st)))) c.from_residual.result e k.0 k.1
-      (subst (λ (ds : List Demand). IsAnswered {A = Unit {0}} old.disk new.disk (checked (first_of ds)) (Err e)) (sym (room_is r w.process.now none c.if-walked.false))
+      (subst (λ (ds : List Demand). IsAnswered {A = Unit {0}} old.disk new.disk (checked (first_of ds)) (Err e)) (sym (room_is r w.process none c.if-walked.false))
       (c.in_err-ask_for_name.ensures.each st.tree w.second.dir_ino (state_tree r.is_state) r.second.directory c.requires.directory));
   same = c.in_err-ask_for_name.ensures.same;
 }
@@ -31,7 +31,7 @@ returns g c = record {
       let r = x.3 in
       let w = c.args.walked.now in
       let none : is_some w.second.ino ≡ false = sym c.is_some.ensures ∙ c.if-is_some.false in
-      ap (λ (ds : List Demand). checked (first_of ds)) (room_is r w.process.now none c.if-walked.false)
+      ap (λ (ds : List Demand). checked (first_of ds)) (room_is r w.process none c.if-walked.false)
       ∙ c.in_ok-ask_for_name.ensures.each st.tree w.second.dir_ino (state_tree r.is_state) r.second.directory c.requires.directory;
   same = c.in_ok-ask_for_name.ensures.same;
 }

@@ -32,7 +32,7 @@ returns-in_err-ino g c = λ old_path new_path w.
 
 pub returns-then-is_same : goal.returns-then-is_same
 returns-then-is_same g c = λ old_path new_path w.
-    let q = c.args.walked.now.process.now in
+    let q = c.args.walked.now.process in
     let same = c.in_ok-ino.ensures.same in
     both_performs (rename_by_two old_path new_path) unchanged_nothing w (g.S.Sectors.state c.check_rename.new.s) same.store (same.sectors 0)
     (none_moved (g.S.Sectors.state c.check_rename.new.s)) Done
