@@ -14,7 +14,7 @@ from mounts import ACLS, USERS, Worker, acl_bytes, acl_text, attempt, other_node
 
 FOLDERS, NAMES = ['a', 'b'], ['c', 'd', 'e']  # names that mostly directories have, and that mostly others have
 WHO = list(USERS)[:4]
-# The last is no default list: with mode 0644 its mask would be empty while others may read, which is known to differ (5 in
+# The last is no default list: with mode 0644 its mask would be empty while others may read, which is known to differ (2 in
 # docs/MOUNT.md). For the same reason no mode below grants something to others and nothing to the group.
 LISTS = ['u::rwx,g::r-x,o::r-x', 'u::rw-,u:1001:rwx,g::r--,m::rwx,o::---', 'u::rwx,u:1002:---,g::rwx,m::rwx,o::rwx',
          'u::rwx,g::---,g:200:rwx,m::rwx,o::--x', 'u::r--,u:1000:rwx,g::rwx,m::r-x,o::r--', 'u::rwx,u:1001:-wx,g::--x,m::-wx,o::rwx']
@@ -57,7 +57,7 @@ def change_mode(file, mode):
 
 
 def keeps_group_bit(path):
-    """Whether it is a directory with set-group-ID, and who gives it a list isn't in its group: 15 in docs/MOUNT.md is known then."""
+    """Whether it is a directory with set-group-ID, and who gives it a list isn't in its group: 3 in docs/MOUNT.md is known then."""
     seen = os.stat(path)
     outside = os.geteuid() and seen.st_gid not in (os.getegid(), *os.getgroups())
     return stat.S_ISDIR(seen.st_mode) and seen.st_mode & stat.S_ISGID and outside
@@ -279,14 +279,12 @@ def failed(seen):
 def known(mounted, local, name, words, ours, theirs):
     """The number in docs/MOUNT.md of a difference, where it is one that is known; the directory is that of the tree."""
     if ours == 'ESTALE' and name in BY_NUMBER:
-        return 1
-    if name == 'fchmod' and ours == 'EACCES':
-        return 4
+        return 12
     if 'own_rules' in mounted.options and (failed(ours) and failed(theirs) or name == 'link' and theirs == 'EPERM'):
-        return 3
+        return 1
     # The present time, of a link itself: Linux asks whether that may be written, and all may.
     if name == 'utime' and tuple(words[1:]) == (NOW, NOW, False) and (ours, theirs) == ('EPERM', None) and (local / words[0]).is_symlink():
-        return 9
+        return 6
     return None
 
 
@@ -296,13 +294,13 @@ def known_times(name, words, call, differing):
         return all(seen.field in fields and (seen.ours == call, seen.theirs == call) == (by_mount, not by_mount) for seen in differing)
     # Owner and group that are to stay: Linux's own file systems move the time, which POSIX leaves open, and ask no server.
     if name == 'chown' and tuple(words[1:]) == (-1, -1) and all_are(['change'], False):
-        return 9
+        return 6
     # A list that is given, or taken, where it is, or isn't: ext4 leaves the time, others move it, as the mount does.
     if name == 'setacl' and all_are(['change'], True):
-        return 9
+        return 6
     # A size that the file has: POSIX moves both times, as the mount and ext4 do; others leave them.
     if name == 'truncate' and all_are(['modification', 'change'], True):
-        return 9
+        return 6
     return None
 
 

@@ -24,7 +24,7 @@ IN_WINDOW = 40  # changes before a kill
 # Changes that the server makes as one: not those that make several calls, nor any that only looks.
 CHANGES = {'open', 'close', 'write', 'ftruncate', 'fchmod', 'fsync', 'mkdir', 'rmdir', 'unlink', 'rename', 'link', 'symlink', 'chmod',
            'chown', 'truncate', 'umask', 'setacl', 'utime'}
-# Of them those that may set other times than the directory's, as is known (9 in docs/MOUNT.md), or given ones.
+# Of them those that may set other times than the directory's, as is known (6 in docs/MOUNT.md), or given ones.
 OTHER_TIMES = {'setacl', 'truncate', 'utime'}
 EACH = 60  # seconds between two lines that tell how far it is
 

@@ -2,7 +2,7 @@
 
 A line is `USER: COMMAND`, which a shell of the user's performs in the root of either side, or `USER: !CALL WORD..`, one of the
 functions below. What stands in brackets before the user is the number in docs/MOUNT.md under which a difference of that step is
-known, as `[8]`, or as `[8 on 2]` where it is known on images of that version of the layout alone. Lines `== TITLE: TOOL..` begin a group,
+known, as `[5]`, or as `[5 on 2]` where it is known on images of that version of the layout alone. Lines `== TITLE: TOOL..` begin a group,
 which needs these tools; groups build on none but themselves.
 """
 import mmap
@@ -110,6 +110,45 @@ def descriptor_calls(path):
     return named, attempt(os.fchmod, file, 0o600), attempt(os.fchown, file, 0, 0)
 
 
+def by_descriptor(file):
+    """Mode, group and list, given by a descriptor; and what it tells then."""
+    changed = attempt(os.fchmod, file, 0o640), attempt(os.fchown, file, -1, 100), attempt(os.fchown, file, 0, -1)
+    listed = attempt(os.setxattr, file, ACLS['access'], acl_bytes('u::rw-,u:1001:r--,g::r--,m::r--,o::---'))
+    seen = os.fstat(file)
+    attributes = sorted(os.listxattr(file)), attempt(os.removexattr, file, ACLS['access'])
+    return changed, listed, attributes, oct(seen.st_mode), seen.st_uid, seen.st_gid, seen.st_nlink
+
+
+def below_closed_directory(path):
+    """An open file below a directory that is closed meanwhile is changed by its descriptor, and not by its path."""
+    os.mkdir(path, 0o700)
+    file = os.open(f'{path}/f', os.O_RDWR | os.O_CREAT, 0o600)
+    os.chmod(path, 0)
+    seen = attempt(os.chmod, f'{path}/f', 0o666), by_descriptor(file)
+    os.chmod(path, 0o700)
+    return seen, oct(os.stat(f'{path}/f').st_mode)
+
+
+def without_a_name(path):
+    """An open file without a name is changed, and opened once more."""
+    file = os.open(path, os.O_RDWR | os.O_CREAT, 0o600)
+    os.write(file, b'here')
+    os.unlink(path)
+    again = attempt(os.open, f'/proc/self/fd/{file}', os.O_RDONLY)
+    return by_descriptor(file), os.read(again, 9) if isinstance(again, int) else again, link_of(file, path)
+
+
+def link_of(file, path):
+    """Gives an open file one more name."""
+    here = os.open('.', os.O_RDONLY)  # with it linkat(2) is called, which follows
+    return attempt(lambda: os.link(f'/proc/self/fd/{file}', path, src_dir_fd=here, follow_symlinks=True))
+
+
+def link_by_descriptor(path):
+    file = os.open(path, os.O_RDWR | os.O_CREAT, 0o600)
+    return link_of(file, f'{path}.linked'), os.fstat(file).st_nlink, os.path.samefile(path, f'{path}.linked')
+
+
 def times(path):
     """Times that are set are told."""
     os.utime(path, ns=(1_000_000_001, 2_000_000_002))
@@ -200,7 +239,8 @@ def listing_while_removed(path):
 
 CALLS = {call.__name__: call for call in (
     set_acl, remove_acl, list_attributes, acls_of, unlinked_open_file, rename_over_open_file, shared_map, private_map,
-    map_of_unlinked, appends, removed_directory, stat_of_removed_directory, descriptor_calls, times, times_move,
+    map_of_unlinked, appends, removed_directory, stat_of_removed_directory, descriptor_calls, below_closed_directory, without_a_name, link_by_descriptor,
+    times, times_move,
     times_of_directories, holes, limits, long_name, crowd, opens, listing_while_removed)}
 for name in ('chmod', 'chown', 'link', 'symlink', 'rename', 'unlink', 'rmdir', 'mkdir', 'mkfifo', 'truncate', 'access', 'lchown'):
     CALLS[name] = getattr(os, name)

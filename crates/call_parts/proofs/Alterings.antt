@@ -5,6 +5,7 @@
 --     ready_later        since before reads, in which a call may be performed
 --     altered        by one call after another
 --     may_alter_then, may_alter_kept        what may be altered after a first call, and after reads
+use Rattle.call_parts.specs.BothTables.{Tables}
 use Rattle.std.specs.Prelude.{◌≡◌, ℕ, ◌+◌, ◌≤◌, IsErr, IsErrAnd, Result, Ok, Err}
 use Rattle.std.proofs.Common.{arith}
 use Rattle.fs_cred.specs.declared.refusal.Refusal.{Refusal}
@@ -16,7 +17,6 @@ use Rattle.sector_txn.proofs.TransactionRuns.{store_joined}
 use Rattle.bit_alloc.specs.Inodes.{IsSound}
 use Rattle.bit_alloc.specs.Room.{TakesSpare}
 use Rattle.bit_alloc.proofs.Transactions.{spare_unchanged}
-use Rattle.fs_model.specs.Processes.{ProcessTable}
 use Rattle.fs_model.specs.States.{State}
 use Rattle.path_walk.specs.Answers.{FailsToRead}
 use Rattle.path_walk.proofs.Kept.{kept_back, sound_kept, on_err, if_err, failed_with}
@@ -87,8 +87,8 @@ module _ {change : TxnState → TxnState → Type 0} where
   not_changed_later {old} {mid} {new} r e err first then fault =
       not_changed r e err (store_joined first then) (fault.0, failed_later old.disk mid.disk new.disk first.reads.failures fault.1)
 
-pub ready_later : {p : Geometry} {old new : TxnState} {processes : ProcessTable} → IsUnchanged old new → (ready : MayPerform p old processes) → (So : State → Type 0) → So ready.state
-    → (now : MayPerform p new processes) × So now.state
+pub ready_later : {p : Geometry} {old new : TxnState} {tables : Tables} → IsUnchanged old new → (ready : MayPerform p old tables) → (So : State → Type 0) → So ready.state
+    → (now : MayPerform p new tables) × So now.state
 ready_later {p} {old} {new} same ready So so = (
   record {
     sound = sound_kept same ready.sound;

@@ -6,21 +6,17 @@
 --     both_refused        what it asks of that refuses
 --     both_broken, both_broken_later        the disk fails
 --     both_performs        it is done
-use Rattle.std.specs.Prelude.{◌≡◌, ℕ, Bool, List, [], ◌∷◌, ◌++◌, None, Some, Result, Ok, Err, IsErr, IsErrAnd}
-use Rattle.std.specs.List.{list_any}
-use Rattle.std.proofs.Common.{refl, sym, ap, subst, arith, ◌∙◌, inl, inr}
-use Rattle.std.proofs.lemmas.Bool.Decides.{nat_tests}
-use Rattle.std.specs.Ordering.{nat_cmp}
+use Rattle.call_parts.specs.BothTables.{Tables}
+use Rattle.std.specs.Prelude.{◌≡◌, ℕ, Bool, List, [], ◌∷◌, ◌++◌, None, Some, IsFalse, Result, Ok, Err, IsErr, IsErrAnd}
+use Rattle.std.proofs.Common.{refl, sym, ap, ◌∙◌, inl, inr}
 use Rattle.sector_disk.specs.Disk.{DiskState}
 use Rattle.sector_disk.proofs.Moments.{failed_later}
 use Rattle.fs_cred.specs.declared.errno.Errno.{Errno}
-use Rattle.fs_cred.specs.declared.errno.Errno.TheVariants.{EINVAL, ENAMETOOLONG, ENOENT, ESRCH}
+use Rattle.fs_cred.specs.declared.errno.Errno.TheVariants.{ESRCH}
 use Rattle.fs_cred.specs.declared.refusal.Refusal.{Refusal}
 use Rattle.fs_cred.specs.declared.refusal.Refusal.TheVariants.{Failed}
-use Rattle.fs_cred.specs.Credentials.{Credential}
 use Rattle.fs_layout.specs.declared.geometry.Geometry.{Geometry}
 use Rattle.fs_layout.specs.Bytes.{SectorMap}
-use Rattle.fs_layout.specs.Maps.{get}
 use Rattle.sector_txn.specs.Sectors.{TxnState, SameStore, IsUnchanged}
 use Rattle.sector_txn.proofs.TransactionRuns.{store_joined}
 use Rattle.fs_model.specs.declared.call.Call.{Call}
@@ -28,18 +24,13 @@ use Rattle.fs_model.specs.declared.reply.Reply.{Reply}
 use Rattle.fs_model.specs.declared.touch.Touch.{Touch}
 use Rattle.fs_model.specs.declared.walk.Form.TheVariants.{Parent}
 use Rattle.fs_model.specs.declared.walk.Found.{Found}
-use Rattle.fs_model.specs.Demands.{Demand, or_else, refuse, first_of}
-use Rattle.fs_model.specs.Limits.{path_limit}
-use Rattle.fs_model.specs.Parts.{is_empty, path_checks}
-use Rattle.fs_model.specs.Processes.{Process, ProcessTable}
+use Rattle.fs_model.specs.Demands.{Demand, or_else, first_of}
+use Rattle.fs_model.specs.Processes.{Process}
 use Rattle.fs_model.specs.Scenes.{Scene, Effect, Row}
 use Rattle.fs_model.specs.States.{State}
-use Rattle.fs_model.specs.Steps.{after, after_call, after_effect, early_refusal, late_refusal, firm_refusal, other_refusal, found_by}
-use Rattle.fs_model.specs.Trees.{Room, Tree}
-use Rattle.fs_model.proofs.StepsDemands.{first_met, then_met, unrefused}
-use Rattle.fs_model.proofs.Unchanged.{same_process_stays}
+use Rattle.fs_model.specs.Steps.{after, after_call, early_refusal, late_refusal, firm_refusal, other_refusal, found_by}
+use Rattle.fs_model.proofs.StepsDemands.{first_met, then_met}
 use Rattle.path_walk.specs.Answers.{refused_or, FailsToRead, IsAnswered}
-use Rattle.path_walk.specs.HeldTrees.{IsThere}
 use Rattle.call_parts.specs.Performing.{IsStateOf, IsRefused, Performs, chosen}
 use Rattle.call_parts.specs.Performing as why
 use Rattle.path_walk.specs.Walked.{walk_of}
@@ -48,9 +39,9 @@ use Rattle.std.specs.List.{flat_map}
 use Rattle.fs_model.specs.Rows.{row_of}
 use Rattle.fs_model.specs.Scenes.{by_two_paths}
 use Rattle.fs_model.specs.Steps.{after_call_at, late_call_at, actor_scene, walk_refusals}
-use Rattle.fs_model.specs.Actors.{judged_as, standing_as, checks_from, start_demands}
-use Rattle.call_parts.specs.Callers.{Who, ByProcess, ByActor, event, IsJudgedAs, IsAbsent, MayMake, first_start, second_start, path_asked, starts_asked, left_by}
-use Rattle.call_parts.proofs.Calling.{absent_refused, early_is, late_is, after_is, actor_early, starts_are, left_same, or_else-none, state_kept, same_caller, first_of-append, met_ok, refused_err, answered_later, answered_refused, interrupted_refused}
+use Rattle.fs_model.specs.Actors.{judged_as, start_of_walk, checks_from, start_demands}
+use Rattle.call_parts.specs.Callers.{Who, ByProcess, ByActor, ByCaller, is_told, leaving, event, IsJudgedAs, IsAbsent, MayMake, first_start, second_start, path_asked, starts_asked, left_by}
+use Rattle.call_parts.proofs.Calling.{absent_refused, no_new_handle, quiet_told, early_is, late_is, after_is, actor_early, starts_are, left_same, or_else-none, state_kept, same_caller, first_of-append, met_ok, refused_err, answered_later, answered_refused, interrupted_refused}
 use Rattle.path_walk.proofs.Kept.{is_err, interrupts_later}
 use Rattle.call_parts.specs.Times.{MovesTimes}
 use Rattle.call_parts.proofs.Changed.{IsChange, times_moved}
@@ -198,11 +189,11 @@ module _ (s : State) (q : Process) (call : Call) (links : Bool) (old_path new_pa
   unfolding other_refusal
   paths_late (ByProcess pid) there may =
       late_is s pid q call there ∙ ap (late_refusal s q) row
-      ∙ joined (walk_refusal s.room s.tree q.cred 1 q.cwd old_path) (walk_refusal s.room s.tree q.cred 2 q.second_cwd new_path) (first_of (demands (scene_from (ByProcess pid))))
+      ∙ joined (walk_refusal s.room s.tree q.cred 1 q.cwd old_path) (walk_refusal s.room s.tree q.cred 2 q.cwd new_path) (first_of (demands (scene_from (ByProcess pid))))
   paths_late (ByActor v) there may =
       ap (late_call_at s v call) row
-      ∙ first_of-append (start_demands s.tree v call row_here.walks) (walk_refusals s.room s.tree (standing_as v) 1 row_here.walks ++ demands (actor_scene s v row_here))
-      ∙ ap (λ ds. or_else (first_of ds) (first_of (walk_refusals s.room s.tree (standing_as v) 1 row_here.walks ++ demands (actor_scene s v row_here))))
+      ∙ first_of-append (start_demands s.tree v call row_here.walks) (walk_refusals s.room s.tree v.cred (start_of_walk v) 1 row_here.walks ++ demands (actor_scene s v row_here))
+      ∙ ap (λ ds. or_else (first_of ds) (first_of (walk_refusals s.room s.tree v.cred (start_of_walk v) 1 row_here.walks ++ demands (actor_scene s v row_here))))
       (starts_are s.tree v call links Parent old_path ((Parent, new_path) ∷ []) may.1)
       ∙ ap (λ (k : Process). or_else (first_of (starts_asked s.tree (ByActor v) links old_path))
       (or_else (walk_refusal s.room s.tree k.cred 1 v.start old_path) (or_else (walk_refusal s.room s.tree k.cred 2 v.second_start new_path)
@@ -210,12 +201,14 @@ module _ (s : State) (q : Process) (call : Call) (links : Bool) (old_path new_pa
       ∙ ap (or_else (first_of (starts_asked s.tree (ByActor v) links old_path)))
       (joined (walk_refusal s.room s.tree q.cred 1 v.start old_path) (walk_refusal s.room s.tree q.cred 2 v.second_start new_path) (first_of (demands (scene_from (ByActor v)))))
 
-  paths_after : (who : Who) (number : ℕ) → IsJudgedAs s.processes who q → after s (event who call) (chosen number 0) ≡ left_by who s (effect (scene_from who))
+  paths_after : (who : Who) (number : ℕ) → IsJudgedAs s.processes who q
+      → after s (event who call) (chosen number 0 0) ≡ left_by who s call (chosen number 0 0) (effect (scene_from who))
   unfolding after
-  paths_after (ByProcess pid) number there = after_is s pid q call there (chosen number 0) ∙ ap (λ (x : Row). after_call s pid x number (Some q)) row
+  paths_after (ByProcess pid) number there = after_is s pid q call there (chosen number 0 0) ∙ ap (λ (x : Row). after_call s pid x number (Some q)) row
   paths_after (ByActor v) number there =
-      ap (λ (r : Row). after_call_at s (r.effect (actor_scene s v r) number)) row
-      ∙ ap (λ (k : Process). after_call_at s (effect (scene_with s k (found_by s.room s.tree v.start (Parent, old_path)) (found_by s.room s.tree v.second_start (Parent, new_path))))) (sym there.is)
+      ap (λ (r : Row). after_call_at s call (chosen number 0 0) (r.effect (actor_scene s v r) number)) row
+      ∙ ap (λ (k : Process). after_call_at s call (chosen number 0 0)
+      (effect (scene_with s k (found_by s.room s.tree v.start (Parent, old_path)) (found_by s.room s.tree v.second_start (Parent, new_path))))) (sym there.is)
 
 module _ (s : State) (who : Who) (q : Process) {call : Call} {links : Bool} {old_path new_path : List ℕ} {demands : Scene → List Demand} {effect : Scene → Effect}
     (is : WalksBoth who call links old_path new_path demands effect) (there : IsJudgedAs s.processes who q) where
@@ -232,10 +225,10 @@ module _ (s : State) (who : Who) (q : Process) {call : Call} {links : Bool} {old
   -- the checks or the walks refuse, or memory or a read fails
   pub walks_refuse : (old new : DiskState) (r : Refusal) → ((x : Refusal) → first_of (both_asked who old_path new_path) ≡ Some x → r ≡ x)
       → (first_of (both_asked who old_path new_path) ≡ None → IsAnswered old new (walks_by s who q links old_path new_path) (Err r))
-      → IsRefused old new s who call r
+      → IsRefused old new s (ByCaller who call) r
   walks_refuse old new r fit each = go (first_of (both_asked who old_path new_path)) refl
     where
-      go : (o : Demand) → first_of (both_asked who old_path new_path) ≡ o → IsRefused old new s who call r
+      go : (o : Demand) → first_of (both_asked who old_path new_path) ≡ o → IsRefused old new s (ByCaller who call) r
       go (Some x) e = why.early (both_firm ∙ e ∙ ap Some (sym (fit x e)))
       go None e = elim (each e) [
         | inl refuses ↦ why.late (both_firm ∙ e)
@@ -243,7 +236,7 @@ module _ (s : State) (who : Who) (q : Process) {call : Call} {links : Bool} {old
             ∙ joined (first_of (starts_asked s.tree who links old_path)) (walks s q call links old_path new_path demands effect is.row who) (first_of (demands found_scenes))
             ∙ ap (λ (x : Demand). or_else x (first_of (demands found_scenes)))
             (refused_err {A = Found × Found} (or_else (first_of (starts_asked s.tree who links old_path)) (walks s q call links old_path new_path demands effect is.row who)) (found_by s.room s.tree (first_start who q) (Parent, old_path), found_by s.room s.tree (second_start who q) (Parent, new_path)) r refuses))
-        | inr way ↦ interrupted_refused old new s who call (both_firm ∙ e) is.asks r way
+        | inr way ↦ interrupted_refused old new s (ByCaller who call) (both_firm ∙ e) is.asks r way
       ]
 
   module _ {f g : Found} (found : HasFoundBoth s who q links old_path new_path f g) where
@@ -263,15 +256,15 @@ module _ (s : State) (who : Who) (q : Process) {call : Call} {links : Bool} {old
         ∙ ap (λ (x : Demand). or_else x (first_of (demands found_scenes))) found.second_unrefused
         ∙ ap (λ (x : Scene). first_of (demands x)) found_scene
 
-    both_found_after : (number : ℕ) → after s (event who call) (chosen number 0) ≡ left_by who s (effect (scene_with s q f g))
+    both_found_after : (number : ℕ) → after s (event who call) (chosen number 0 0) ≡ left_by who s call (chosen number 0 0) (effect (scene_with s q f g))
     both_found_after number =
-        paths_after s q call links old_path new_path demands effect is.row who number there ∙ ap (λ (x : Scene). left_by who s (effect x)) found_scene
+        paths_after s q call links old_path new_path demands effect is.row who number there ∙ ap (λ (x : Scene). left_by who s call (chosen number 0 0) (effect x)) found_scene
 
 -- ---- each call that walks both so is refused
 
 -- there is no such process
-pub absent_both : {p : Geometry} {map : SectorMap} {processes : ProcessTable} {s : State} → IsStateOf p map processes s → (old new : DiskState) (who : Who) (links : Bool) (old_path new_path : List ℕ) (errno : Errno)
-    → (errno ≡ ESRCH) × IsAbsent processes who → RefusesBoth old new s who links old_path new_path (Failed errno)
+pub absent_both : {p : Geometry} {map : SectorMap} {tables : Tables} {s : State} → IsStateOf p map tables s → (old new : DiskState) (who : Who) (links : Bool) (old_path new_path : List ℕ) (errno : Errno)
+    → (errno ≡ ESRCH) × IsAbsent tables.processes who → RefusesBoth old new s who links old_path new_path (Failed errno)
 absent_both at old new who links old_path new_path errno none = record { each = λ call demands effect w. absent_refused at old new who call errno none }
 
 -- the checks or the walks of its paths refuse
@@ -309,12 +302,12 @@ both_found old new s who q there links old_path new_path f g fit is =
 module _ {who : Who} {call : Call} {links : Bool} {old_path new_path : List ℕ} {demands : Scene → List Demand} {effect : Scene → Effect}
     (is : WalksBoth who call links old_path new_path demands effect) {p : Geometry} where
   -- the refusal of the walks is passed on
-  pub walks_refused : {time : ℕ} {old new : TxnState} {processes : ProcessTable} (r : Result Reply Refusal) (e : Refusal) → IsErr r → IsErrAnd r (λ y. y ≡ e) → IsUnchanged old new
-      → ((s : State) → IsStateOf p old.sectors processes s → RefusesBoth old.disk new.disk s who links old_path new_path e) → Performs p time who call old new processes processes r
+  pub walks_refused : {time : ℕ} {old new : TxnState} {tables : Tables} (r : Result Reply Refusal) (e : Refusal) → IsErr r → IsErrAnd r (λ y. y ≡ e) → IsUnchanged old new
+      → ((s : State) → IsStateOf p old.sectors tables s → RefusesBoth old.disk new.disk s who links old_path new_path e) → Performs p time (ByCaller who call) old new tables tables r
   walks_refused r e err and same refuses = refused_performs r e err and same.store (λ s at. (refuses s at).each call demands effect is)
 
-  module _ {old mid : TxnState} (same : IsUnchanged old mid) {processes : ProcessTable} {q : Process} {f g : Found} (w : HasWalkedBoth p mid processes who links old_path new_path q f g) where
-    module _ (s : State) (at : IsStateOf p old.sectors processes s) where
+  module _ {old mid : TxnState} (same : IsUnchanged old mid) {tables : Tables} {q : Process} {f g : Found} (w : HasWalkedBoth p mid tables who links old_path new_path q f g) where
+    module _ (s : State) (at : IsStateOf p old.sectors tables s) where
       has : HasFoundBoth s who q links old_path new_path f g
       has = w.found s (state_kept same at)
 
@@ -323,33 +316,33 @@ module _ {who : Who} {call : Call} {links : Bool} {old_path new_path : List ℕ}
 
     -- what it asks of what was found refuses
     pub both_refused : {time : ℕ} (new : TxnState) (r : Result Reply Refusal) (e : Refusal) → IsErr r → IsErrAnd r (λ y. y ≡ e) → SameStore mid new
-        → {A : Type 0} (x : A) → ((s : State) → HasFoundBoth s who q links old_path new_path f g → IsStateOf p mid.sectors processes s
+        → {A : Type 0} (x : A) → ((s : State) → HasFoundBoth s who q links old_path new_path f g → IsStateOf p mid.sectors tables s
         → IsAnswered mid.disk new.disk (refused_or (first_of (demands (scene_with s q f g))) (Ok x)) (Err e))
-        → Performs p time who call old new processes processes r
+        → Performs p time (ByCaller who call) old new tables tables r
     both_refused new r e err and store {A} x refused = refused_performs r e err and (store_joined same.store store)
         (λ s at.
-        answered_refused old.disk new.disk s who call (both_found_firm s who q is (here s at) (has s at)) is.asks e
+        answered_refused old.disk new.disk s (ByCaller who call) (both_found_firm s who q is (here s at) (has s at)) is.asks e
         (first_of (demands (scene_with s q f g))) x (both_found_late s who q is (here s at) (has s at))
         (answered_later new.disk same (refused s (has s at) (state_kept same at))))
 
     -- or a fault, in what it does after that
     pub both_broken : {time : ℕ} {last : TxnState} (new : TxnState) (r : Result Reply Refusal) (e : Refusal) → IsErr r × IsErrAnd r (λ y. y ≡ e) → IsUnchanged mid last → SameStore last new
-        → FailsToRead last.disk new.disk e → Performs p time who call old new processes processes r
+        → FailsToRead last.disk new.disk e → Performs p time (ByCaller who call) old new tables tables r
     both_broken {last} new r e err later store fault =
         both_refused new r e err.0 err.1 (store_joined later.store store) {A = ℕ} 0 (λ s has at. inr (interrupts_later new.disk later (inr fault)))
 
     -- or a fault, after the call has changed the tree
     pub both_broken_later : {time : ℕ} {last : TxnState} (new : TxnState) (r : Result Reply Refusal) (e : Refusal) → IsErr r × IsErrAnd r (λ y. y ≡ e) → SameStore mid last → SameStore last new
-        → FailsToRead last.disk new.disk e → Performs p time who call old new processes processes r
+        → FailsToRead last.disk new.disk e → Performs p time (ByCaller who call) old new tables tables r
     both_broken_later {last} new r e err first store fault = both_refused new r e err.0 err.1 (store_joined first store) {A = ℕ} 0
         (λ s has at. inr (inr (fault.0, failed_later mid.disk last.disk new.disk first.reads.failures fault.1)))
 
     -- the call has changed the tree, and then its times have moved
-    pub both_performs : {time : ℕ} (last : TxnState) {new : TxnState} {touches : List (ℕ × Touch)} → SameStore mid last → last.sectors 0 ≡ mid.sectors 0 → MovesTimes p time touches last new → (reply : Reply)
-        → ((s : State) → HasFoundBoth s who q links old_path new_path f g → IsStateOf p mid.sectors processes s
-        → IsChange p last.sectors processes s q (demands (scene_with s q f g)) (λ n. effect (scene_with s q f g)) reply touches)
-        → Performs p time who call old new processes processes (Ok reply)
-    both_performs last store super moved reply changes = record {
+    pub both_performs : {time : ℕ} → IsFalse (is_told call) → (last : TxnState) {new : TxnState} {touches : List (ℕ × Touch)} → SameStore mid last → last.sectors 0 ≡ mid.sectors 0 → MovesTimes p time touches last new → (reply : Reply)
+        → ((s : State) → HasFoundBoth s who q links old_path new_path f g → IsStateOf p mid.sectors tables s
+        → IsChange p last.sectors tables s q (demands (scene_with s q f g)) (λ n. effect (scene_with s q f g)) reply touches)
+        → Performs p time (ByCaller who call) old new tables tables (Ok reply)
+    both_performs quiet last store super moved reply changes = record {
       store = store_joined same.store (store_joined store moved.store);
       super = moved.super ∙ super ∙ same.sectors 0;
       table = tt;
@@ -360,10 +353,13 @@ module _ {who : Who} {call : Call} {links : Bool} {old_path new_path : List ℕ}
             early = both_found_firm s who q is (here s at) found;
             late = both_found_late s who q is (here s at) found ∙ c.met;
             number = c.number;
+            handle = 0;
             change = c.change;
             effect = both_found_after s who q is (here s at) found c.number
-                ∙ ap (left_by who s) c.is ∙ left_same at who q (here s at) c.change reply;
+                ∙ ap (left_by who s call (chosen c.number 0 0)) c.is ∙ left_same at who q (here s at) call is.opens (chosen c.number 0 0) c.change reply
+                ∙ ap (leaving s tables c.change) (quiet_told who call quiet c.number reply);
             new_number = c.new_number;
+            new_handle = no_new_handle s who call is.opens;
             holds = times_moved at c moved;
           };
     }

@@ -1,5 +1,5 @@
 -- A call joined from its parts: the checks and the walk of its path, what it asks of what was found, and its effect.
-use Rattle.std.specs.Prelude.{◌≡◌, ℕ, ◌<◌, Bool, not, ◌&&◌, List, [], ◌∷◌, ◌++◌, None, Some, is_some, IsTrue, Result, Ok, Err, OnOk, OnErr}
+use Rattle.std.specs.Prelude.{◌≡◌, ℕ, ◌<◌, Bool, not, ◌&&◌, List, [], ◌∷◌, ◌++◌, None, Some, is_some, true, false, IsTrue, IsFalse, Result, Ok, Err, OnOk, OnErr}
 use Rattle.std.proofs.Common.{refl, sym, ap, subst, ◌∙◌, inl, inr}
 use Rattle.std.specs.Ordering.{nat_cmp}
 use Rattle.sector_disk.specs.Disk.{DiskState}
@@ -12,19 +12,21 @@ use Rattle.fs_layout.specs.Bytes.{SectorMap}
 use Rattle.fs_layout.specs.Maps.{get}
 use Rattle.sector_txn.specs.Sectors.{TxnState, IsUnchanged}
 use Rattle.fs_model.specs.declared.call.Call.{Call}
-use Rattle.fs_model.specs.declared.event.Event.TheVariants.{Call as Calls}
+use Rattle.fs_model.specs.declared.event.Event.TheVariants.{Call as Calls, CallAt}
+use Rattle.fs_model.specs.declared.call.Call.TheVariants.{Open, Mkdir, Symlink}
+use Rattle.call_parts.specs.BothTables.{Tables, both, tables_in, users_of}
 use Rattle.fs_model.specs.declared.reply.Reply.{Reply}
 use Rattle.fs_model.specs.declared.walk.Form.{Form}
 use Rattle.fs_model.specs.declared.walk.Found.{Found}
 use Rattle.fs_model.specs.TreeChanges.{Same, changed, swept}
 use Rattle.fs_model.specs.Demands.{Demand, or_else, first_of}
 use Rattle.fs_model.specs.Parts.{path_checks}
-use Rattle.fs_model.specs.Processes.{Process, ProcessTable}
+use Rattle.fs_model.specs.Processes.{Process, ProcessTable, Openings}
 use Rattle.fs_model.specs.Rows.{row_of}
 use Rattle.fs_model.specs.Scenes.{Scene, Effect, Row, answers, by_path}
 use Rattle.fs_model.specs.Stands.{HoldsAll, placed}
 use Rattle.fs_model.specs.States.{State, IsProcess}
-use Rattle.fs_model.specs.Steps.{Choice, after, after_call, after_effect, asks_in_call, early_refusal, late_refusal, firm_refusal, other_refusal, found_by, trail_in, unchanged}
+use Rattle.fs_model.specs.Steps.{Choice, HasNewHandle, after, after_call, asks_in_call, early_refusal, late_refusal, firm_refusal, other_refusal, found_by, trail_in, unchanged}
 use Rattle.fs_model.specs.Trails.{trail_of}
 use Rattle.fs_model.specs.Trees.{Room, Tree, IsTree}
 use Rattle.fs_model.specs.Walks.{found_of, first_refusal}
@@ -39,52 +41,44 @@ use Rattle.fs_model.specs.Demands.{refuse}
 use Rattle.fs_model.specs.Trees.{node_at}
 use Rattle.fs_model.specs.TreeChanges.{Change}
 use Rattle.fs_model.specs.Steps.{after_call_at, late_call_at, actor_scene, walk_refusals}
-use Rattle.fs_model.specs.Actors.{judged_as, standing_as, is_actor_call, acts_on_links, checks_from, is_link_node, start_demands}
+use Rattle.fs_model.specs.Actors.{judged_as, start_of_walk, opened_by, actor_reply, is_actor_call, acts_on_links, checks_from, is_link_node, start_demands}
 use Rattle.fs_model.specs.Parts.{is_empty}
 use Rattle.fs_model.proofs.StepsDemands.{first_met, then_met}
-use Rattle.call_parts.specs.Callers.{Who, ByProcess, ByActor, event, IsJudgedAs, IsAbsent, MayMake, first_start, path_asked, starts_asked, left_by}
+use Rattle.call_parts.specs.Callers.{Who, ByProcess, ByActor, AnyCall, ByCaller, event, event_of, asks_of, opens, is_told, told_of_made, told_by, leaving, IsJudgedAs, IsAbsent, MayMake, first_start, path_asked, starts_asked, left_by}
 use Rattle.call_parts.proofs.Starts.{first_start_there}
 use Rattle.call_parts.specs.Paths.{scene_at, walk_by, HasFound, IsTold}
 use Rattle.call_parts.specs.Performing.{IsStateOf, IsDone, IsRefused, Performs, chosen}
 use Rattle.call_parts.specs.Performing as why
-use Rattle.path_walk.specs.Walked.{walk_of}
 use Rattle.path_walk.proofs.HeldNodes.{is_there, number_below}
 use Rattle.path_walk.proofs.Kept.{same_map, kept, interrupts_later}
 
 -- ---- the state of a map and a table
 
-module _ {p : Geometry} {map : SectorMap} {processes : ProcessTable} {s : State} (at : IsStateOf p map processes s) where
+module _ {p : Geometry} {map : SectorMap} {tables : Tables} {s : State} (at : IsStateOf p map tables s) where
   pub state_tree : HoldsTree p map s.tree
   state_tree = record { holds = at.holds; tree = subst (λ (r : Room). IsTree r s.tree) at.same_room at.is_state.tree }
 
-  pub same_process : (pid : ℕ) (q : Process) → get nat_cmp processes pid ≡ Some q → get nat_cmp s.processes pid ≡ Some q
-  same_process pid q there = ap (λ (d : ProcessTable). get nat_cmp d pid) at.same_processes ∙ there
+  pub same_process : (pid : ℕ) (q : Process) → get nat_cmp tables.processes pid ≡ Some q → get nat_cmp s.processes pid ≡ Some q
+  same_process pid q there = ap (λ (d : Tables). get nat_cmp d.processes pid) at.same_tables ∙ there
 
   -- as whom a caller is judged
-  pub same_caller : (who : Who) (q : Process) → IsJudgedAs processes who q → IsJudgedAs s.processes who q
-  same_caller who q there = subst (λ (d : ProcessTable). IsJudgedAs d who q) (sym at.same_processes) there
+  pub same_caller : (who : Who) (q : Process) → IsJudgedAs tables.processes who q → IsJudgedAs s.processes who q
+  same_caller who q there = subst (λ (d : Tables). IsJudgedAs d.processes who q) (sym at.same_tables) there
 
-  pub state_process : (pid : ℕ) (q : Process) → get nat_cmp processes pid ≡ Some q → IsProcess s.tree q
+  pub state_process : (pid : ℕ) (q : Process) → get nat_cmp tables.processes pid ≡ Some q → IsProcess s.tree q
   state_process pid q there = (at.is_state.processes at.up).each_process pid q (same_process pid q there)
 
   -- the current directory of a process is there
-  pub cwd_there : (pid : ℕ) (q : Process) → get nat_cmp processes pid ≡ Some q → IsThere s.tree q.cwd
+  pub cwd_there : (pid : ℕ) (q : Process) → get nat_cmp tables.processes pid ≡ Some q → IsThere s.tree q.cwd
   cwd_there pid q there = let d = (state_process pid q there).cwd in is_there s.tree q.cwd d.node d.is_there
 
-  pub cwd_below : (pid : ℕ) (q : Process) → get nat_cmp processes pid ≡ Some q → q.cwd < p.inodes
+  pub cwd_below : (pid : ℕ) (q : Process) → get nat_cmp tables.processes pid ≡ Some q → q.cwd < p.inodes
   cwd_below pid q there = number_below state_tree q.cwd (cwd_there pid q there)
 
-  -- the directory in which its second paths start
-  pub second_cwd_there : (pid : ℕ) (q : Process) → get nat_cmp processes pid ≡ Some q → IsThere s.tree q.second_cwd
-  second_cwd_there pid q there = let d = (state_process pid q there).second_cwd in is_there s.tree q.second_cwd d.node d.is_there
-
-  pub second_cwd_below : (pid : ℕ) (q : Process) → get nat_cmp processes pid ≡ Some q → q.second_cwd < p.inodes
-  second_cwd_below pid q there = number_below state_tree q.second_cwd (second_cwd_there pid q there)
-
 -- a state is that of the map after reads, too
-pub state_kept : {p : Geometry} {old new : TxnState} {processes : ProcessTable} {s : State} → IsUnchanged old new → IsStateOf p old.sectors processes s
-    → IsStateOf p new.sectors processes s
-state_kept {p} {old} {new} {processes} {s} same at = kept (λ m. IsStateOf p m processes s) same at
+pub state_kept : {p : Geometry} {old new : TxnState} {tables : Tables} {s : State} → IsUnchanged old new → IsStateOf p old.sectors tables s
+    → IsStateOf p new.sectors tables s
+state_kept {p} {old} {new} {tables} {s} same at = kept (λ m. IsStateOf p m tables s) same at
 
 -- ---- answers
 
@@ -135,21 +129,21 @@ on_err_same (Err e) h = h
 -- ---- refusals
 
 -- there is no such process
-pub absent_refused : {p : Geometry} {map : SectorMap} {processes : ProcessTable} {s : State} → IsStateOf p map processes s → (old new : DiskState) (who : Who) (call : Call) (errno : Errno)
-    → (errno ≡ ESRCH) × IsAbsent processes who → IsRefused old new s who call (Failed errno)
+pub absent_refused : {p : Geometry} {map : SectorMap} {tables : Tables} {s : State} → IsStateOf p map tables s → (old new : DiskState) (who : Who) (call : Call) (errno : Errno)
+    → (errno ≡ ESRCH) × IsAbsent tables.processes who → IsRefused old new s (ByCaller who call) (Failed errno)
 unfolding firm_refusal
 absent_refused {s = s} at old new (ByProcess pid) call errno none =
-    let e = ap (λ (d : ProcessTable). get nat_cmp d pid) at.same_processes ∙ none.1 in
-    subst (λ (x : Errno). IsRefused old new s (ByProcess pid) call (Failed x)) (sym none.0) (why.early (rw e refl))
+    let e = ap (λ (d : Tables). get nat_cmp d.processes pid) at.same_tables ∙ none.1 in
+    subst (λ (x : Errno). IsRefused old new s (ByCaller (ByProcess pid) call) (Failed x)) (sym none.0) (why.early (rw e refl))
 absent_refused {s = s} at old new (ByActor v) call errno none = absurd none.1
 
-module _ (old new : DiskState) (s : State) (who : Who) (call : Call) (firm : firm_refusal s (event who call) ≡ None) (asks : IsTrue (asks_in_call call)) (r : Refusal) where
-  pub interrupted_refused : Interrupts old new r → IsRefused old new s who call r
+module _ (old new : DiskState) (s : State) (request : AnyCall) (firm : firm_refusal s (event_of request) ≡ None) (asks : IsTrue (asks_of request)) (r : Refusal) where
+  pub interrupted_refused : Interrupts old new r → IsRefused old new s request r
   interrupted_refused way = elim way [ inl memory ↦ why.lacks_memory firm asks memory | inr read ↦ why.read_fails firm read.1 read.0 ]
 
   -- by what is asked of what was found
-  pub answered_refused : {A : Type 0} (d : Demand) (x : A) → other_refusal s (event who call) ≡ d → IsAnswered old new (refused_or d (Ok x)) (Err r)
-      → IsRefused old new s who call r
+  pub answered_refused : {A : Type 0} (d : Demand) (x : A) → other_refusal s (event_of request) ≡ d → IsAnswered old new (refused_or d (Ok x)) (Err r)
+      → IsRefused old new s request r
   answered_refused d x late h = elim h [
     | inl e ↦ why.late firm (late ∙ refused_err d x r e)
     | inr way ↦ interrupted_refused way
@@ -189,9 +183,9 @@ unfolding found_of
 ino_of_trail room t cwd form path = refl
 
 -- what was found is there
-pub found_there : {p : Geometry} {map : SectorMap} {processes : ProcessTable} {s : State} {who : Who} {q : Process} {links : Bool} {form : Form} {path : List ℕ} {f : Found} (n : ℕ)
-    → IsStateOf p map processes s → HasFound s who q links form path f → f.ino ≡ Some n → IsThere s.tree n
-found_there {p} {map} {processes} {s} {who} {q} {links} {form} {path} {f} n at found is =
+pub found_there : {p : Geometry} {map : SectorMap} {tables : Tables} {s : State} {who : Who} {q : Process} {links : Bool} {form : Form} {path : List ℕ} {f : Found} (n : ℕ)
+    → IsStateOf p map tables s → HasFound s who q links form path f → f.ino ≡ Some n → IsThere s.tree n
+found_there {p} {map} {tables} {s} {who} {q} {links} {form} {path} {f} n at found is =
     finds_are_there s.room s.tree at.is_state.tree (first_start who q) form path
     (first_start_there s q links path at.is_state at.up who found.there found.started) n
     (sym (ino_of_trail s.room s.tree (first_start who q) form path) ∙ ap (λ (g : Found). g.ino) (sym found.is) ∙ is)
@@ -206,7 +200,7 @@ path_early arguments checks =
     ∙ first_of-append arguments (checks ++ [])
     ∙ ap (or_else (first_of arguments)) (first_of-append checks [] ∙ or_else-none (first_of checks))
 
--- what is no visit is refused first
+-- what no actor calls is refused first
 pub actor_early : (call : Call) (d : Demand) → IsTrue (is_actor_call call) → or_else (refuse EBADF (not (is_actor_call call))) d ≡ d
 actor_early call d is = ap (λ b. or_else (refuse EBADF (not b)) d) is
 
@@ -244,25 +238,59 @@ module _ (s : State) (q : Process) (call : Call) (links : Bool) (form : Form) (p
   path_late (ByProcess pid) there may = late_is s pid q call there ∙ ap (late_refusal s q) row
   path_late (ByActor v) there may =
       ap (late_call_at s v call) row
-      ∙ first_of-append (start_demands s.tree v call row_here.walks) (walk_refusals s.room s.tree (standing_as v) 1 row_here.walks ++ demands (actor_scene s v row_here))
-      ∙ ap (λ ds. or_else (first_of ds) (first_of (walk_refusals s.room s.tree (standing_as v) 1 row_here.walks ++ demands (actor_scene s v row_here)))) (starts_are s.tree v call links form path [] may.1)
+      ∙ first_of-append (start_demands s.tree v call row_here.walks) (walk_refusals s.room s.tree v.cred (start_of_walk v) 1 row_here.walks ++ demands (actor_scene s v row_here))
+      ∙ ap (λ ds. or_else (first_of ds) (first_of (walk_refusals s.room s.tree v.cred (start_of_walk v) 1 row_here.walks ++ demands (actor_scene s v row_here)))) (starts_are s.tree v call links form path [] may.1)
       ∙ ap (λ (k : Process). or_else (first_of (starts_asked s.tree (ByActor v) links path))
       (or_else (first_refusal s.tree k.cred 1 form (trail_in s.room s.tree v.start (form, path))) (first_of (demands (scene_at s k (found_by s.room s.tree v.start (form, path))))))) (sym there.is)
 
-  path_after : (who : Who) (number : ℕ) → IsJudgedAs s.processes who q → after s (event who call) (chosen number 0) ≡ left_by who s (effect (scene_at s q (found_from who)) number)
+  path_after : (who : Who) (number handle : ℕ) → IsJudgedAs s.processes who q
+      → after s (event who call) (chosen number handle 0) ≡ left_by who s call (chosen number handle 0) (effect (scene_at s q (found_from who)) number)
   unfolding after
-  path_after (ByProcess pid) number there = after_is s pid q call there (chosen number 0) ∙ ap (λ (x : Row). after_call s pid x number (Some q)) row
-  path_after (ByActor v) number there =
-      ap (λ (r : Row). after_call_at s (r.effect (actor_scene s v r) number)) row
-      ∙ ap (λ (k : Process). after_call_at s (effect (scene_at s k (found_by s.room s.tree v.start (form, path))) number)) (sym there.is)
+  path_after (ByProcess pid) number handle there = after_is s pid q call there (chosen number handle 0) ∙ ap (λ (x : Row). after_call s pid x number (Some q)) row
+  path_after (ByActor v) number handle there =
+      ap (λ (r : Row). after_call_at s call (chosen number handle 0) (r.effect (actor_scene s v r) number)) row
+      ∙ ap (λ (k : Process). after_call_at s call (chosen number handle 0) (effect (scene_at s k (found_by s.room s.tree v.start (form, path))) number)) (sym there.is)
 
--- an effect that leaves the caller as it is leaves all processes so
-pub left_same : {p : Geometry} {map : SectorMap} {processes : ProcessTable} {s : State} (at : IsStateOf p map processes s) (who : Who) (q : Process) → IsJudgedAs s.processes who q
-    → (change : Change) (reply : Reply) → left_by who s (record { change = change; process = q; reply = reply }) ≡ record { change = change; processes = processes; reply = reply; now = s.now }
-left_same {s = s} at (ByProcess pid) q there change reply =
-    ap (λ (d : ProcessTable). record { change = change; processes = d; reply = reply; now = s.now }) (same_process_stays s.processes pid q at.is_state.pids there ∙ at.same_processes)
-left_same {s = s} at (ByActor v) q there change reply =
-    ap (λ (d : ProcessTable). record { change = change; processes = d; reply = reply; now = s.now }) at.same_processes
+-- ---- what an actor is told
+
+no_opening : (call : Call) → IsFalse (opens call) → (handle : ℕ) (q : Process) (openings : Openings) → opened_by call handle q openings ≡ openings
+no_opening (Open path flags mode) none handle q openings = absurd (let no : true ≡ false = none in cc)
+no_opening _ none handle q openings = refl
+
+told_number : (call : Call) → IsFalse (opens call) → (handle n : ℕ) (effect : Effect) → actor_reply call handle n effect ≡ told_of_made call n effect.reply
+told_number (Open path flags mode) none handle n effect = absurd (let no : true ≡ false = none in cc)
+told_number _ none handle n effect = refl
+
+quiet_of_made : (call : Call) → IsFalse (is_told call) → (n : ℕ) (reply : Reply) → told_of_made call n reply ≡ reply
+quiet_of_made (Mkdir path mode) none n reply = absurd (let no : true ≡ false = none in cc)
+quiet_of_made (Symlink target path) none n reply = absurd (let no : true ≡ false = none in cc)
+quiet_of_made _ none n reply = refl
+
+-- of most calls it is told no number
+pub quiet_told : (who : Who) (call : Call) → IsFalse (is_told call) → (n : ℕ) (reply : Reply) → told_by who call n reply ≡ reply
+quiet_told (ByProcess pid) call none n reply = refl
+quiet_told (ByActor v) call none n reply = quiet_of_made call none n reply
+
+no_handle : (s : State) (v : Actor) (call : Call) → IsFalse (opens call) → HasNewHandle s (CallAt v call) 0
+no_handle s v (Open path flags mode) none = absurd (let no : true ≡ false = none in cc)
+no_handle s v _ none = tt
+
+-- and most give no handle
+pub no_new_handle : (s : State) (who : Who) (call : Call) → IsFalse (opens call) → HasNewHandle s (event who call) 0
+no_new_handle s (ByProcess pid) call none = tt
+no_new_handle s (ByActor v) call none = no_handle s v call none
+
+-- an effect that leaves the caller as it is leaves both tables so
+pub left_same : {p : Geometry} {map : SectorMap} {tables : Tables} {s : State} (at : IsStateOf p map tables s) (who : Who) (q : Process) → IsJudgedAs s.processes who q
+    → (call : Call) → IsFalse (opens call) → (choice : Choice) (change : Change) (reply : Reply)
+    → left_by who s call choice (record { change = change; process = q; reply = reply }) ≡ leaving s tables change (told_by who call choice.ino reply)
+left_same {s = s} at (ByProcess pid) q there call none choice change reply =
+    ap (λ (d : ProcessTable). leaving s (both d s.openings) change reply) (same_process_stays s.processes pid q at.is_state.pids there)
+    ∙ ap (λ (d : Tables). leaving s d change reply) at.same_tables
+left_same {s = s} at (ByActor v) q there call none choice change reply =
+    ap (λ (o : Openings). leaving s (both s.processes o) change (actor_reply call choice.handle choice.ino (record { change = change; process = q; reply = reply }))) (no_opening call none choice.handle q s.openings)
+    ∙ ap (λ (x : Reply). leaving s (tables_in s) change x) (told_number call none choice.handle choice.ino (record { change = change; process = q; reply = reply }))
+    ∙ ap (λ (d : Tables). leaving s d change (told_of_made call choice.ino reply)) at.same_tables
 
 -- ---- a call by one path
 
@@ -284,17 +312,17 @@ module _ (s : State) (who : Who) (q : Process) (call : Call) (links : Bool) (for
   pub resolve_refused : (old new : DiskState) (r : Refusal) → IsTrue (asks_in_call call)
       → ((x : Refusal) → first_of (path_asked who path) ≡ Some x → r ≡ x)
       → (first_of (path_asked who path) ≡ None → IsAnswered old new (walk_by s who q links form path) (Err r))
-      → IsRefused old new s who call r
+      → IsRefused old new s (ByCaller who call) r
   resolve_refused old new r asks checked each = go (first_of (path_asked who path)) refl
     where
-      go : (o : Demand) → first_of (path_asked who path) ≡ o → IsRefused old new s who call r
+      go : (o : Demand) → first_of (path_asked who path) ≡ o → IsRefused old new s (ByCaller who call) r
       go (Some x) e = why.early (by_path_firm ∙ e ∙ ap Some (sym (checked x e)))
       go None e = elim (each e) [
         | inl is ↦ why.late (by_path_firm ∙ e)
             (by_path_late
             ∙ or_else-assoc (first_of (starts_asked s.tree who links path)) (first_refusal s.tree q.cred 1 form (trail_in s.room s.tree start (form, path))) (first_of (demands (scene_at s q (found_by s.room s.tree start (form, path)))))
             ∙ ap (λ x. or_else x (first_of (demands (scene_at s q (found_by s.room s.tree start (form, path)))))) (refused_err (or_else (first_of (starts_asked s.tree who links path)) (first_refusal s.tree q.cred 1 form (trail_in s.room s.tree start (form, path)))) (found_by s.room s.tree start (form, path)) r is))
-        | inr way ↦ interrupted_refused old new s who call (by_path_firm ∙ e) asks r way
+        | inr way ↦ interrupted_refused old new s (ByCaller who call) (by_path_firm ∙ e) asks r way
       ]
 
   module _ (f : Found) (found : HasFound s who q links form path f) where
@@ -310,17 +338,18 @@ module _ (s : State) (who : Who) (q : Process) (call : Call) (links : Bool) (for
         ∙ ap (λ x. or_else x (first_of (demands (scene_at s q (found_by s.room s.tree start (form, path)))))) found.unrefused
         ∙ ap (λ (g : Found). first_of (demands (scene_at s q g))) (sym found.is)
 
-    pub found_after : (number : ℕ) → after s (event who call) (chosen number 0) ≡ left_by who s (effect (scene_at s q f) number)
-    found_after number =
-        path_after s q call links form path arguments demands effect row who number there
-        ∙ ap (λ (g : Found). left_by who s (effect (scene_at s q g) number)) (sym found.is)
+    pub found_after : (number handle : ℕ) → after s (event who call) (chosen number handle 0) ≡ left_by who s call (chosen number handle 0) (effect (scene_at s q f) number)
+    found_after number handle =
+        path_after s q call links form path arguments demands effect row who number handle there
+        ∙ ap (λ (g : Found). left_by who s call (chosen number handle 0) (effect (scene_at s q g) number)) (sym found.is)
 
     -- where it only answers
-    pub found_told : {p : Geometry} {map : SectorMap} {processes : ProcessTable} (reply : Reply) → IsStateOf p map processes s
-        → effect (scene_at s q f) 0 ≡ answers (scene_at s q f) reply → after s (event who call) (chosen 0 0) ≡ unchanged s reply
-    found_told reply at is =
-        found_after 0 ∙ ap (left_by who s) is ∙ left_same at who q there Same reply
-        ∙ ap (λ (d : ProcessTable). record { change = Same; processes = d; reply = reply; now = s.now }) (sym at.same_processes)
+    pub found_told : {p : Geometry} {map : SectorMap} {tables : Tables} (reply : Reply) → IsFalse (opens call) → IsFalse (is_told call) → IsStateOf p map tables s
+        → effect (scene_at s q f) 0 ≡ answers (scene_at s q f) reply → after s (event who call) (chosen 0 0 0) ≡ unchanged s reply
+    found_told reply none quiet at is =
+        found_after 0 0 ∙ ap (left_by who s call (chosen 0 0 0)) is ∙ left_same at who q there call none (chosen 0 0 0) Same reply
+        ∙ ap (leaving s _ Same) (quiet_told who call quiet 0 reply)
+        ∙ ap (λ (d : Tables). leaving s d Same reply) (sym at.same_tables)
 
 -- what the walk of a path has found
 pub resolved : (old new : DiskState) {s : State} {who : Who} {q : Process} {links : Bool} {form : Form} {path : List ℕ} (f : Found) → IsJudgedAs s.processes who q
@@ -333,29 +362,31 @@ resolved old new {s} {who} {q} {links} {form} {path} f there checked e =
 
 -- ---- a call that changes nothing
 
-told_done : {p : Geometry} {time : ℕ} {map : SectorMap} {processes : ProcessTable} {s : State} (new : SectorMap) (old' new' : DiskState) (who : Who) (call : Call) (reply : Reply) → new ≡ map
-    → IsStateOf p map processes s → IsTold old' new' s who call (Ok reply) → IsDone p time new processes s who call reply
-told_done {p} {time} {map} {processes} {s} new old' new' who call reply same at told = record {
+told_done : {p : Geometry} {time : ℕ} {map : SectorMap} {tables : Tables} {s : State} (new : SectorMap) (old' new' : DiskState) (request : AnyCall) (reply : Reply) → new ≡ map
+    → IsStateOf p map tables s → IsTold old' new' s request (Ok reply) → IsDone p time new tables s request reply
+told_done {p} {time} {map} {tables} {s} new old' new' request reply same at told = record {
   early = told.0;
   late = told.1;
   number = 0;
+  handle = 0;
   change = Same;
-  effect = told.2 ∙ ap (λ (d : ProcessTable). record { change = Same; processes = d; reply = reply; now = s.now }) at.same_processes;
+  effect = told.3 ∙ ap (λ (d : Tables). leaving s d Same reply) at.same_tables;
   new_number = tt;
-  holds = subst (λ (d : ProcessTable). HoldsAll p new (placed (swept (changed s.tree Same) d))) at.same_processes
-      (subst (λ (t : Tree). HoldsAll p new (placed t)) (sym (nothing_to_drop s.room s.tree s.processes at.is_state.tree (at.is_state.processes at.up)))
+  new_handle = told.2;
+  holds = subst (λ (d : Tables). HoldsAll p new (placed (swept (changed s.tree Same) (users_of d)))) at.same_tables
+      (subst (λ (t : Tree). HoldsAll p new (placed t)) (sym (nothing_to_drop s.room s.tree s.processes s.openings at.is_state.tree (at.is_state.processes at.up)))
       (subst (λ (m : SectorMap). HoldsAll p m (placed s.tree)) (sym same) at.holds));
 }
 
-pub told_performs : {p : Geometry} {time : ℕ} {who : Who} {call : Call} {old new : TxnState} {processes : ProcessTable} (result : Result Reply Refusal) → IsUnchanged old new
-    → ((s : State) → IsStateOf p old.sectors processes s → IsTold old.disk new.disk s who call result) → Performs p time who call old new processes processes result
-told_performs {p} {time} {who} {call} {old} {new} {processes} (Ok reply) same each = record {
+pub told_performs : {p : Geometry} {time : ℕ} {request : AnyCall} {old new : TxnState} {tables : Tables} (result : Result Reply Refusal) → IsUnchanged old new
+    → ((s : State) → IsStateOf p old.sectors tables s → IsTold old.disk new.disk s request result) → Performs p time request old new tables tables result
+told_performs {p} {time} {request} {old} {new} {tables} (Ok reply) same each = record {
   store = same.store;
   super = same.sectors 0;
   table = tt;
-  each = λ s at. told_done new.sectors old.disk new.disk who call reply (same_map same) at (each s at);
+  each = λ s at. told_done new.sectors old.disk new.disk request reply (same_map same) at (each s at);
 }
-told_performs {p} {time} {who} {call} {old} {new} {processes} (Err r) same each = record {
+told_performs {p} {time} {request} {old} {new} {tables} (Err r) same each = record {
   store = same.store;
   super = tt;
   table = refl;

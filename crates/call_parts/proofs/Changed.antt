@@ -3,6 +3,7 @@
 --     times_moved, none_moved        and then times have moved; none have
 --     sound_again, may_touch        the map is sound then, so times may move
 --     rewritten, rewrites_found        the node that was found is made another
+use Rattle.call_parts.specs.BothTables.{Tables, users_of}
 use Rattle.std.specs.Prelude.{◌≡◌, ℕ, ◌+◌, ◌≤◌, nat_eq, nat_le, ◌||◌, Bool, true, false, List, [], ◌∷◌, length, Option, None, Some, is_some, ◌⊎◌, if◌then◌else◌, IsTrue}
 use Rattle.std.proofs.Common.{refl, sym, ap, arith, subst, ◌∙◌, inl, inr}
 use Rattle.std.proofs.lemmas.Bool.{eq-eqb, le-leb}
@@ -40,7 +41,7 @@ use Rattle.call_parts.specs.Times.{AreBelow, kept_touches, MayMoveTimes, MovesTi
 -- ---- a change
 
 -- The demands are met, and the map holds the tree that the effect leaves, before the times of `touching` move.
-pub record IsChange (p : Geometry) (map : SectorMap) (processes : ProcessTable) (s : State) (q : Process) (asked : List Demand) (effect : ℕ → Effect) (reply : Reply)
+pub record IsChange (p : Geometry) (map : SectorMap) (tables : Tables) (s : State) (q : Process) (asked : List Demand) (effect : ℕ → Effect) (reply : Reply)
     (touching : List (ℕ × Touch)) : Type 0 where
   pub met : first_of asked ≡ None
   pub number : ℕ
@@ -48,7 +49,7 @@ pub record IsChange (p : Geometry) (map : SectorMap) (processes : ProcessTable) 
   pub is : effect number ≡ record { change = change; process = q; reply = reply }
   pub new_number : HasNewNumber s change
   pub times : touches_of s.tree change ≡ touching
-  pub holds : HoldsAll p map (placed (swept (changed s.tree change) processes))
+  pub holds : HoldsAll p map (placed (swept (changed s.tree change) (users_of tables)))
 
 -- ---- and then its times move
 
@@ -60,7 +61,7 @@ none_kept true = refl
 none_kept false = refl
 
 -- the times that the disk keeps
-module _ {p : Geometry} {map : SectorMap} {processes : ProcessTable} {s : State} (at : IsStateOf p map processes s) where
+module _ {p : Geometry} {map : SectorMap} {tables : Tables} {s : State} (at : IsStateOf p map tables s) where
   touches_kept : (change : Change) → touches s.room s.tree change ≡ kept_touches p (touches_of s.tree change)
   touches_kept Same = none_kept (room_of p).keeps_times
   touches_kept (Rewrite touch n node) = ap (λ (r : Room). touches r s.tree (Rewrite touch n node)) at.same_room
@@ -69,7 +70,7 @@ module _ {p : Geometry} {map : SectorMap} {processes : ProcessTable} {s : State}
   touches_kept (TakeName dir_ino name) = ap (λ (r : Room). touches r s.tree (TakeName dir_ino name)) at.same_room
   touches_kept (MoveName dir_ino name to_dir_ino to_name) = ap (λ (r : Room). touches r s.tree (MoveName dir_ino name to_dir_ino to_name)) at.same_room
 
-  -- whatever becomes of the processes
+  -- whatever becomes of the tables
   pub all_moved : {time : ℕ} {touching : List (ℕ × Touch)} {old new : TxnState} (change : Change) → touches_of s.tree change ≡ touching → MovesTimes p time touching old new → (now : ProcessTable)
       → HoldsAll p old.sectors (placed (swept (changed s.tree change) now))
       → HoldsAll p new.sectors (placed (touched time (touches s.room s.tree change) (swept (changed s.tree change) now)))
@@ -77,10 +78,10 @@ module _ {p : Geometry} {map : SectorMap} {processes : ProcessTable} {s : State}
       subst (λ (l : List (ℕ × Touch)). HoldsAll p new.sectors (placed (touched time l (swept (changed s.tree change) now))))
       (sym (touches_kept change ∙ ap (kept_touches p) are)) (moved.held (swept (changed s.tree change) now) held)
 
-  pub times_moved : {time : ℕ} {touching : List (ℕ × Touch)} {old new : TxnState} {now : ProcessTable} {q : Process} {asked : List Demand} {effect : ℕ → Effect} {reply : Reply}
+  pub times_moved : {time : ℕ} {touching : List (ℕ × Touch)} {old new : TxnState} {now : Tables} {q : Process} {asked : List Demand} {effect : ℕ → Effect} {reply : Reply}
       → (c : IsChange p old.sectors now s q asked effect reply touching) → MovesTimes p time touching old new
-      → HoldsAll p new.sectors (placed (touched time (touches s.room s.tree c.change) (swept (changed s.tree c.change) now)))
-  times_moved {now = now} c moved = all_moved c.change c.times moved now c.holds
+      → HoldsAll p new.sectors (placed (touched time (touches s.room s.tree c.change) (swept (changed s.tree c.change) (users_of now))))
+  times_moved {now = now} c moved = all_moved c.change c.times moved (users_of now) c.holds
 
 -- none move
 pub none_moved : {p : Geometry} {time : ℕ} (txn : TxnState) → MovesTimes p time [] txn txn
@@ -106,29 +107,29 @@ sound_again p old new what sound store held =
     sound_from p new held.consistent (omega (arith, sound.bitmaps.disk, store.reads.narrowed.size)) (omega (arith, sound.bitmaps.header, ap log_end store.header))
     (λ n low none. held.inode_bits n low ∙ outside p.inodes n (is_some (what n)) none)
 
-pub may_touch : {p : Geometry} {old new : TxnState} {processes now : ProcessTable} {q : Process} {asked : List Demand} {effect : ℕ → Effect} {reply : Reply} {touching : List (ℕ × Touch)}
-    → (ready : MayPerform p old processes) → SameStore old new → IsChange p new.sectors now ready.state q asked effect reply touching → AreBelow p.inodes touching
+pub may_touch : {p : Geometry} {old new : TxnState} {tables now : Tables} {q : Process} {asked : List Demand} {effect : ℕ → Effect} {reply : Reply} {touching : List (ℕ × Touch)}
+    → (ready : MayPerform p old tables) → SameStore old new → IsChange p new.sectors now ready.state q asked effect reply touching → AreBelow p.inodes touching
     → (k : ℕ) → TakesSpare p k old new → length touching + k ≤ 47 → MayMoveTimes p touching new
 may_touch {p} {old} {new} {now = now} ready store c below k taken few = record {
-  sound = sound_again p old new (placed (swept (changed ready.state.tree c.change) now)) ready.sound store c.holds;
+  sound = sound_again p old new (placed (swept (changed ready.state.tree c.change) (users_of now))) ready.sound store c.holds;
   below = below;
   spare = (let spare = ready.spare in omega (arith, spare, taken, few));
 }
 
 -- ---- a node is made another
 
-module _ {p : Geometry} {mid : SectorMap} {processes : ProcessTable} {s : State} (at : IsStateOf p mid processes s) (new : SectorMap) (touch : Touch) (n : ℕ) (was now : Node)
+module _ {p : Geometry} {mid : SectorMap} {tables : Tables} {s : State} (at : IsStateOf p mid tables s) (new : SectorMap) (touch : Touch) (n : ℕ) (was now : Node)
     (there : node_at s.tree n ≡ Some was) (may : MayReplace s.room s.tree was now) (one : ChangesOne p n mid new)
     (here : HoldsNode p.version new (inode_at p new n) (record { node = now; names = names_of s.tree n; parent = parent s.tree n })) where
   -- the map after node n was made another
-  pub rewritten : HoldsAll p new (placed (swept (changed s.tree (Rewrite touch n now)) processes))
+  pub rewritten : HoldsAll p new (placed (swept (changed s.tree (Rewrite touch n now)) (users_of tables)))
   rewritten =
-      rewrite_held s at.is_state at.up processes (λ k is. subst (λ (d : ProcessTable). IsTrue (is_open d k)) at.same_processes is) p mid at.holds at.same_room
+      rewrite_held s at.is_state at.up (users_of tables) (λ k is. subst (λ (d : Tables). IsTrue (is_open (users_of d) k)) at.same_tables is) p mid at.holds at.same_room
       new touch n was now there may one.inode one.used here
 
   -- what is rewritten is the node that was found
   pub rewrites_found : (q : Process) (f : Found) (asked : List Demand) (g : Node → Node) → first_of asked ≡ None → found_ino f ≡ n
-      → the_node s.tree (found_ino f) ≡ was → g was ≡ now → IsChange p new processes s q asked (λ k. rewrites (scene_at s q f) touch (found_ino f) g) Done ((n, touch) ∷ [])
+      → the_node s.tree (found_ino f) ≡ was → g was ≡ now → IsChange p new tables s q asked (λ k. rewrites (scene_at s q f) touch (found_ino f) g) Done ((n, touch) ∷ [])
   rewrites_found q f asked g met is node_is now_is = record {
     met = met;
     number = 0;

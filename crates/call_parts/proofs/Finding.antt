@@ -1,6 +1,7 @@
 -- The exits of what finds what a path leads to for a caller.
 --     unfit_path, refused_not_met, met_not_refused        its checks
 --     from_starts, walk_by_is        its starts and its walk
+use Rattle.call_parts.specs.BothTables.{Tables}
 use Rattle.std.specs.Prelude.{◌≡◌, ℕ, ◌==◌, Bool, List, length, Option, None, Some, Result, Ok, Err, IsErr, IsErrAnd}
 use Rattle.std.proofs.Common.{sym, ap, subst, ◌∙◌, inl, inr}
 use Rattle.sector_disk.specs.Disk.{DiskState}
@@ -23,7 +24,6 @@ use Rattle.fs_cred.specs.Credentials.{Credential}
 use Rattle.fs_layout.specs.declared.geometry.Geometry.{Geometry}
 use Rattle.fs_layout.specs.Bytes.{SectorMap}
 use Rattle.sector_txn.specs.Sectors.{TxnState, IsUnchanged}
-use Rattle.fs_model.specs.Processes.{ProcessTable}
 use Rattle.fs_model.specs.Stands.{room_of}
 use Rattle.fs_model.specs.Trees.{Room}
 use Rattle.path_walk.specs.HeldTrees.{IsThere}
@@ -70,17 +70,17 @@ module _ (s : State) (who : Who) (q : Process) (links : Bool) (form : Form) (pat
 pub starts_by_types : {who : Who} {v : Actor} {path slice : List ℕ} {n m : ℕ} {empty : Bool} (links : Bool) (a b : Option FileType) (t : Tree) → who ≡ ByActor v → slice ≡ path
     → empty ≡ (length slice == 0) → n ≡ v.start → m ≡ v.second_start → a ≡ type_in t n → b ≡ type_in t m
     → checked (first_of (types_asked a b empty links)) ≡ checked (first_of (starts_asked t who links path))
-starts_by_types {who} {v} {path} {slice} {n} {m} {empty} links a b t visits same none start second_start first second =
+starts_by_types {who} {v} {path} {slice} {n} {m} {empty} links a b t acts same none start second_start first second =
     ap checked
     (ap (λ (x : Option FileType). first_of (types_asked x b empty links)) (first ∙ ap (type_in t) start)
     ∙ ap (λ (x : Option FileType). first_of (types_asked (type_in t v.start) x empty links)) (second ∙ ap (type_in t) second_start)
     ∙ ap (λ (x : Bool). first_of (types_asked (type_in t v.start) (type_in t v.second_start) x links)) (none ∙ ap (λ (l : List ℕ). length l == 0) same ∙ sym (empty_is path))
     ∙ sym (types_are t v links path)
-    ∙ ap (λ (x : Who). first_of (starts_asked t x links path)) (sym visits))
+    ∙ ap (λ (x : Who). first_of (starts_asked t x links path)) (sym acts))
 
 -- ---- a walk from the start of a caller, as whom it is judged
 
-pub walked_from : {p : Geometry} {map : SectorMap} {processes : ProcessTable} {s : State} → IsStateOf p map processes s → (old new : DiskState) (walk : ℕ) (form : Form) (path : List ℕ) (r : Result Found Refusal)
+pub walked_from : {p : Geometry} {map : SectorMap} {tables : Tables} {s : State} → IsStateOf p map tables s → (old new : DiskState) (walk : ℕ) (form : Form) (path : List ℕ) (r : Result Found Refusal)
     {cred judged : Credential} {start here : ℕ} → cred ≡ judged → start ≡ here → IsThere s.tree here
     → (IsThere s.tree start → IsAnswered old new (walk_of (room_of p) s.tree cred walk form start path) r) → IsAnswered old new (walk_of s.room s.tree judged walk form here path) r
 walked_from {p} {s = s} at old new walk form path r {cred} {judged} {start} {here} cred_is start_is there h =
@@ -89,8 +89,8 @@ walked_from {p} {s = s} at old new walk form path r {cred} {judged} {start} {her
     ∙ ap (λ (k : Credential). walk_of s.room s.tree k walk form start path) cred_is
     ∙ ap (λ (n : ℕ). walk_of s.room s.tree judged walk form n path) start_is) (h (subst (IsThere s.tree) (sym start_is) there))
 
-module _ {p : Geometry} {old mid : TxnState} {processes : ProcessTable} {s : State} (at : IsStateOf p old.sectors processes s) (who : Who) (q : Process) (links : Bool) (form : Form) (path : List ℕ)
-    (stands : IsJudgedAs processes who q) (started : checked (first_of (starts_asked s.tree who links path)) ≡ Ok tt) (same : IsUnchanged old mid)
+module _ {p : Geometry} {old mid : TxnState} {tables : Tables} {s : State} (at : IsStateOf p old.sectors tables s) (who : Who) (q : Process) (links : Bool) (form : Form) (path : List ℕ)
+    (stands : IsJudgedAs tables.processes who q) (started : checked (first_of (starts_asked s.tree who links path)) ≡ Ok tt) (same : IsUnchanged old mid)
     {cred : Credential} {start : ℕ} (cred_is : cred ≡ q.cred) (start_is : start ≡ first_start who q) where
   walk_is : (r : Result Found Refusal) (new : DiskState) → (IsThere s.tree start → IsAnswered mid.disk new (walk_of (room_of p) s.tree cred 1 form start path) r)
       → IsAnswered mid.disk new (walk_by s who q links form path) r

@@ -1,4 +1,5 @@
 -- What is found where a link at the end of a path is followed: a file or a directory, on which access is decided.
+use Rattle.call_parts.specs.BothTables.{Tables}
 use Rattle.std.specs.Prelude.{◌≡◌, ℕ, false, List, None, Some, unwrap_or, option_and_then, Ok, Err, IsFalse}
 use Rattle.std.proofs.Common.{refl, sym, ap, subst, ◌∙◌}
 use Rattle.posix_acl.specs.declared.entry.Perms.{Perms}
@@ -21,7 +22,7 @@ use Rattle.fs_model.specs.AttributeCalls.{access_effect, granted_by}
 use Rattle.fs_model.specs.Births.{no_node}
 use Rattle.fs_model.specs.Demands.{Demand, first_of, accessed_at, decided, permission_of, permission_on}
 use Rattle.fs_model.specs.Nodes.{Node, Body, File, Dir, Link, accessed, accessed_body, is_directory, is_link}
-use Rattle.fs_model.specs.Processes.{Process, ProcessTable}
+use Rattle.fs_model.specs.Processes.{Process}
 use Rattle.fs_model.specs.Scenes.{found_ino, node_found, body_found, permission_at_end, answers}
 use Rattle.fs_model.specs.Rules.{is_directory_kind}
 use Rattle.fs_model.specs.States.{State, IsState}
@@ -70,9 +71,9 @@ start_leads s (ByProcess pid) q path n is up there met found =
     followed_no_link s.room s.tree is.tree q.cwd path ((is.processes up).each_process pid q there).cwd n found
 start_leads s (ByActor v) q path n is up there met found = from_object s.room s.tree is.tree v.start path n found (start_no_link s.tree v path met)
 
-pub followed_access : {p : Geometry} {map : SectorMap} {processes : ProcessTable} {s : State} {who : Who} {q : Process} {path : List ℕ} {f : Found} (n : ℕ)
-    → IsStateOf p map processes s → HasFound s who q false Follow path f → f.ino ≡ Some n → IsAccessed s.tree n
-followed_access {p} {map} {processes} {s} {who} {q} {path} {f} n at found is =
+pub followed_access : {p : Geometry} {map : SectorMap} {tables : Tables} {s : State} {who : Who} {q : Process} {path : List ℕ} {f : Found} (n : ℕ)
+    → IsStateOf p map tables s → HasFound s who q false Follow path f → f.ino ≡ Some n → IsAccessed s.tree n
+followed_access {p} {map} {tables} {s} {who} {q} {path} {f} n at found is =
     let there = stands s.tree n (found_there n at found is) in
     let none = start_leads s who q path n at.is_state at.up found.there found.started
     (sym (ino_of_trail s.room s.tree (first_start who q) Follow path) ∙ ap (λ (g : Found). g.ino) (sym found.is) ∙ is) there.node there.at in
@@ -90,10 +91,10 @@ pub node_is : (s : State) (q : Process) (f : Found) (n : ℕ) → found_ino f �
 node_is s q f n is a = ap (λ (k : ℕ). unwrap_or (node_at s.tree k) no_node) is ∙ ap (λ o. unwrap_or o no_node) a.at
 
 -- what was found is a directory where its inode says so
-pub directory_is : {p : Geometry} {map : SectorMap} {processes : ProcessTable} {s : State} {who : Who} {q : Process} {path : List ℕ} {f : Found} {n : ℕ} {v : Inode}
-    → IsStateOf p map processes s → HasFound s who q false Follow path f → f.ino ≡ Some n → found_ino f ≡ n → v ≡ inode_at p map n
+pub directory_is : {p : Geometry} {map : SectorMap} {tables : Tables} {s : State} {who : Who} {q : Process} {path : List ℕ} {f : Found} {n : ℕ} {v : Inode}
+    → IsStateOf p map tables s → HasFound s who q false Follow path f → f.ino ≡ Some n → found_ino f ≡ n → v ≡ inode_at p map n
     → is_directory (body_found (scene_at s q f) f) ≡ is_directory_kind v.kind
-directory_is {p} {map} {processes} {s} {who} {q} {path} {f} {n} {v} at has some is inode =
+directory_is {p} {map} {tables} {s} {who} {q} {path} {f} {n} {v} at has some is inode =
     let a = followed_access n at has some in
     ap (λ (u : Node). is_directory u.body) (node_is s q f n is a)
     ∙ sym (ap (λ (w : Inode). is_directory_kind w.kind) inode ∙ held_kind (state_tree at) n a.node a.at)
@@ -106,8 +107,8 @@ rule_told s q f want n is a =
     ∙ ap (λ o. answers (scene_at s q f) (granted_by q.cred want o)) a.is
 
 -- the inode of what was found, as it was read
-module _ {p : Geometry} {mid new : TxnState} {processes : ProcessTable} {s : State} {who : Who} {q : Process} {path : List ℕ} {f : Found} {n : ℕ} {v : Inode}
-    (at : IsStateOf p mid.sectors processes s) (has : HasFound s who q false Follow path f) (i : IsInodeFound p mid.sectors f n v) (same : IsUnchanged mid new) where
+module _ {p : Geometry} {mid new : TxnState} {tables : Tables} {s : State} {who : Who} {q : Process} {path : List ℕ} {f : Found} {n : ℕ} {v : Inode}
+    (at : IsStateOf p mid.sectors tables s) (has : HasFound s who q false Follow path f) (i : IsInodeFound p mid.sectors f n v) (same : IsUnchanged mid new) where
   pub access_held : HasAccess new.sectors v (followed_access n at has i.some).access
   access_held =
       let a = followed_access n at has i.some in

@@ -3,48 +3,44 @@
 --     first_there, second_there        it is there
 --     first_walked, second_walked        what each of the two walks says of the tree
 --     is_scene        the scene fits the state
+use Rattle.call_parts.specs.BothTables.{Tables}
 use Rattle.std.specs.Prelude.{Bool}
 use Rattle.call_parts.specs.Callers.{Who, first_start, second_start, path_asked}
 use Rattle.call_parts.proofs.Starts.{PathFits, path_fits, stands_fits, first_start_there, second_start_there}
-use Rattle.std.specs.Prelude.{◌≡◌, ℕ, ◌==◌, List, None, Some}
+use Rattle.std.specs.Prelude.{◌≡◌, ℕ, List, None, Some}
 use Rattle.std.proofs.Common.{sym, ap, subst, ◌∙◌}
-use Rattle.std.specs.List.{list_any}
-use Rattle.fs_cred.specs.declared.errno.Errno.TheVariants.{ENOENT, EINVAL}
 use Rattle.fs_layout.specs.declared.geometry.Geometry.{Geometry}
 use Rattle.fs_layout.specs.Bytes.{SectorMap, IsBytes}
 use Rattle.fs_model.specs.declared.walk.Form.TheVariants.{Parent}
 use Rattle.fs_model.specs.declared.walk.Found.{Found}
-use Rattle.fs_model.specs.Demands.{refuse, first_of}
-use Rattle.fs_model.specs.Parts.{is_empty, path_checks}
-use Rattle.fs_model.specs.Processes.{Process, ProcessTable}
+use Rattle.fs_model.specs.Demands.{first_of}
+use Rattle.fs_model.specs.Processes.{Process}
 use Rattle.fs_model.specs.States.{State, IsProcess}
-use Rattle.fs_model.specs.Trees.{IsDirectoryAt}
 use Rattle.fs_model.specs.Steps.{found_by}
 use Rattle.fs_model.proofs.Finds.{finds_are_there}
-use Rattle.fs_model.proofs.StepsDemands.{first_met, then_met, unrefused}
+use Rattle.fs_model.proofs.StepsDemands.{first_met, then_met}
 use Rattle.fs_model.proofs.StepsFit.{IsScene}
 use Rattle.fs_model.proofs.StepsFound.{IsWalked, is_walked}
 use Rattle.path_walk.specs.HeldTrees.{IsThere}
 use Rattle.call_parts.specs.Performing.{IsStateOf}
 use Rattle.call_parts.proofs.Calling.{first_of-append, ino_of_trail}
-use Rattle.path_walk.proofs.HeldNodes.{is_there}
 use Rattle.sector_txn.specs.Sectors.{TxnState}
 use Rattle.call_parts.specs.Reaching.{HasWalkedBoth}
 use Rattle.call_parts.specs.TwoPaths.{walk_refusal, scene_with, HasFoundBoth, FindsBoth}
 
-pub finds_both : {p : Geometry} {map : SectorMap} {processes : ProcessTable} {s : State} {who : Who} {q : Process} {links : Bool} {old new : List ℕ} {f g : Found} → IsBytes old → IsBytes new
-    → IsStateOf p map processes s → HasFoundBoth s who q links old new f g → FindsBoth p map processes q f g s
-finds_both {p} {map} {processes} {s} {who} {q} {links} {old} {new} {f} {g} old_bytes new_bytes at has =
+pub finds_both : {p : Geometry} {map : SectorMap} {tables : Tables} {s : State} {who : Who} {q : Process} {links : Bool} {old new : List ℕ} {f g : Found} → IsBytes old → IsBytes new
+    → IsStateOf p map tables s → HasFoundBoth s who q links old new f g → FindsBoth p map tables q f g s
+finds_both {p} {map} {tables} {s} {who} {q} {links} {old} {new} {f} {g} old_bytes new_bytes at has =
     record { who = who; links = links; old = old; new = new; old_bytes = old_bytes; new_bytes = new_bytes; is_state = at; found = has }
 
 -- in each state
-pub finds_each : {p : Geometry} {txn : TxnState} {processes : ProcessTable} {who : Who} {links : Bool} {old new : List ℕ} {q : Process} {f g : Found} → HasWalkedBoth p txn processes who links old new q f g
-    → (s : State) → IsStateOf p txn.sectors processes s → FindsBoth p txn.sectors processes q f g s
+pub finds_each : {p : Geometry} {txn : TxnState} {tables : Tables} {who : Who} {links : Bool} {old new : List ℕ} {q : Process} {f g : Found} → HasWalkedBoth p txn tables who links old new q f g
+    → (s : State) → IsStateOf p txn.sectors tables s → FindsBoth p txn.sectors tables q f g s
 finds_each w s at = finds_both w.old_bytes w.new_bytes at (w.found s at)
 
 -- ---- one of both
 
-module _ {p : Geometry} {map : SectorMap} {processes : ProcessTable} {s : State} (at : IsStateOf p map processes s) (q : Process)
+module _ {p : Geometry} {map : SectorMap} {tables : Tables} {s : State} (at : IsStateOf p map tables s) (q : Process)
     (start : ℕ) (path : List ℕ) (x : Found) (is : x ≡ found_by s.room s.tree start (Parent, path)) where
   path_there : IsThere s.tree start → (n : ℕ) → x.ino ≡ Some n → IsThere s.tree n
   path_there from n some =
@@ -57,7 +53,7 @@ module _ {p : Geometry} {map : SectorMap} {processes : ProcessTable} {s : State}
 
 -- ---- both
 
-module _ {p : Geometry} {map : SectorMap} {processes : ProcessTable} {q : Process} {f g : Found} {s : State} (i : FindsBoth p map processes q f g s) where
+module _ {p : Geometry} {map : SectorMap} {tables : Tables} {q : Process} {f g : Found} {s : State} (i : FindsBoth p map tables q f g s) where
   fits : IsProcess s.tree q
   fits = stands_fits s i.who q i.is_state.is_state i.is_state.up i.found.there
 

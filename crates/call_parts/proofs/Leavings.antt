@@ -19,7 +19,10 @@ use Rattle.bit_alloc.specs.Bitmaps.{IsNumber}
 use Rattle.bit_alloc.specs.Inodes.{IsSound}
 use Rattle.fs_model.specs.TreeChanges.{swept, lives_nameless}
 use Rattle.fs_model.specs.Nodes.{Node, Body, File, Dir, Link, is_link}
-use Rattle.fs_model.specs.Processes.{Descriptor, Process, ProcessTable, is_open}
+use Rattle.fs_model.specs.Processes.{Descriptor, Process, ProcessTable, Openings, process_holding, users, is_open}
+use Rattle.call_parts.specs.BothTables.{Tables, tables_in, users_of}
+use Rattle.call_parts.specs.declared.reaching.OpenAt.{OpenAt}
+use Rattle.call_parts.specs.declared.reaching.OpenAt.TheVariants as places
 use Rattle.fs_model.specs.Stands.{HoldsAll, placed}
 use Rattle.fs_model.specs.States.{State, FitsTree}
 use Rattle.fs_model.specs.StoredNodes.{HoldsNode, names_field}
@@ -28,15 +31,15 @@ use Rattle.fs_model.proofs.OneNode.{body_not_free}
 use Rattle.fs_model.proofs.PlacedClosings.{close_held, close_drop_held}
 use Rattle.fs_model.proofs.Swept.{stays}
 use Rattle.fs_model.proofs.Unchanged.{fitting_stays, root_directory, nothing_to_drop}
-use Rattle.open_files.specs.Tables.{with_changed, without_descriptor}
+use Rattle.open_files.specs.Tables.{without_descriptor}
 use Rattle.open_files.proofs.Slots.{any_with_entry}
 use Rattle.call_parts.specs.Performing.{IsStateOf}
 use Rattle.call_parts.proofs.Calling.{state_tree, same_process}
 use Rattle.path_walk.proofs.HeldNodes.{held_node}
 use Rattle.path_walk.proofs.Kept.{kept, sound_kept}
 use Rattle.call_parts.specs.Dropping.{Drops, LeavesInode, stays_open, has_name, was_free, goes}
-use Rattle.call_parts.specs.Reaching.{IsOpened}
-use Rattle.call_parts.proofs.ByDescriptor.{open_fits, open_below, entry_again, has_open, still_open, changed_there}
+use Rattle.call_parts.specs.Reaching.{IsOpened, closed_in}
+use Rattle.call_parts.proofs.ByDescriptor.{open_fits, open_below, entry_again, handle_entry, has_open, still_open, changed_there}
 use Rattle.call_parts.proofs.Removed.{touches_after}
 
 -- ---- of the map
@@ -67,10 +70,10 @@ or_true : (b : Bool) → (b || true) ≡ true
 or_true true = refl
 or_true false = refl
 
--- what stands in a tree with these processes stays where it stays open
-pub node_stood : (room : Room) (t : Tree) (was now : ProcessTable) → IsTree room t → FitsTree t was → (n : ℕ) (node : Node) → node_at t n ≡ Some node
-    → (IsTrue (is_open was n) → IsTrue (is_open now n)) → stays t now (n, node) ≡ true
-node_stood room t was now is fits n node at still =
+-- what stands in a tree with these users stays where it stays open
+pub node_stood : (room : Room) (t : Tree) (processes : ProcessTable) (openings : Openings) (now : ProcessTable) → IsTree room t → FitsTree t processes openings → (n : ℕ) (node : Node) → node_at t n ≡ Some node
+    → (IsTrue (is_open (users processes openings) n) → IsTrue (is_open now n)) → stays t now (n, node) ≡ true
+node_stood room t processes openings now is fits n node at still =
     fitting_stays room now n node.body (names_of t n) (is.each n node at).names (λ none ne. still (fits.nameless n node at none ne))
     (root_directory room t n node is at)
 
@@ -116,33 +119,43 @@ open_besides q fd d rising at m ne =
 
 -- ---- close
 
-module _ {p : Geometry} {map : SectorMap} {before : ProcessTable} {pid fd : ℕ} {d : Descriptor} (o : IsOpened before pid fd d) (s : State) (at : IsStateOf p map before s) where
-  pub closed_number : IsNumber p Inodes d.ino
-  closed_number = let x = open_fits o s at in ((at.is_state.tree.each d.ino x.node x.is_there).positive, open_below o s at)
+pub closed_number : {p : Geometry} {map : SectorMap} {before : Tables} {place : OpenAt} {d : Descriptor} (o : IsOpened before place d) (s : State) → IsStateOf p map before s → IsNumber p Inodes d.ino
+closed_number {d = d} o s at = let x = open_fits o s at in ((at.is_state.tree.each d.ino x.node x.is_there).positive, open_below o s at)
 
-  others_open : (now : ProcessTable) → now ≡ with_changed before pid (λ q. without_descriptor q fd) → (m : ℕ) → m ≢ d.ino → is_open now m ≡ is_open s.processes m
-  others_open now is m ne =
-      let rising : IsMap nat_cmp before = subst (λ (x : ProcessTable). IsMap nat_cmp x) at.same_processes at.is_state.pids in
-      let fits = (at.is_state.processes at.up).each_process pid o.process (same_process at pid o.process o.there) in
-      ap (λ (x : ProcessTable). is_open x m) (is ∙ changed_there before pid o.process (λ q. without_descriptor q fd) o.there)
-      ∙ still_open before pid o.process (without_descriptor o.process fd) rising o.there m (open_besides o.process fd d fits.descriptors o.at m ne)
-      ∙ ap (λ (x : ProcessTable). is_open x m) (sym at.same_processes)
+-- what is closed by a descriptor, or by a handle, is all that may be open no more
+others_open : {p : Geometry} {map : SectorMap} {before : Tables} (place : OpenAt) (d : Descriptor) (o : IsOpened before place d) (s : State) → IsStateOf p map before s → (m : ℕ) → m ≢ d.ino
+    → is_open (users_of (closed_in before place)) m ≡ is_open (users_of (tables_in s)) m
+others_open {before = before} (places.Descriptor pid fd) d o s at m ne =
+    let rising : IsMap nat_cmp before.processes = subst (λ (x : Tables). IsMap nat_cmp x.processes) at.same_tables at.is_state.pids in
+    let fits = (at.is_state.processes at.up).each_process pid o.process (same_process at pid o.process o.there) in
+    ap (λ b. has_open m (process_holding before.openings) || b)
+    (ap (λ (x : ProcessTable). is_open x m) (changed_there before.processes pid o.process (λ q. without_descriptor q fd) o.there)
+    ∙ still_open before.processes pid o.process (without_descriptor o.process fd) rising o.there m (open_besides o.process fd d fits.descriptors o.at m ne))
+    ∙ ap (λ (x : Tables). is_open (users_of x) m) (sym at.same_tables)
+others_open {before = before} (places.Handle handle offset) d o s at m ne =
+    let e = handle_entry before.openings handle offset o.process d o.there o.at in
+    let rising : IsMap nat_cmp before.openings = subst (λ (x : Tables). IsMap nat_cmp x.openings) at.same_tables at.is_state.handles in
+    let other : m ≢ e.0.ino = λ same. ne (same ∙ ap (λ (x : Descriptor). x.ino) e.2) in
+    ap (λ b. b || is_open before.processes m) (open_besides (process_holding before.openings) handle e.0 rising e.1 m other)
+    ∙ ap (λ (x : Tables). is_open (users_of x) m) (sym at.same_tables)
 
-pub closed_holds : {p : Geometry} {old new : TxnState} {before : ProcessTable} {pid fd : ℕ} {d : Descriptor} (now : ProcessTable) (o : IsOpened before pid fd d)
-    → now ≡ with_changed before pid (λ q. without_descriptor q fd) → (s : State) → IsStateOf p old.sectors before s
-    → LeavesInode p d.ino (is_open now d.ino) old new → HoldsAll p new.sectors (placed (swept s.tree now))
-closed_holds {p} {old} {new} {before} {pid} {fd} {d} now o is s at leaves =
+pub closed_holds : {p : Geometry} {old new : TxnState} {before : Tables} {place : OpenAt} {d : Descriptor} (o : IsOpened before place d)
+    → (s : State) → IsStateOf p old.sectors before s
+    → LeavesInode p d.ino (is_open (users_of (closed_in before place)) d.ino) old new → HoldsAll p new.sectors (placed (swept s.tree (users_of (closed_in before place))))
+closed_holds {p} {old} {new} {before} {place} {d} o s at leaves =
+    let now = users_of (closed_in before place) in
+    let was = users_of (tables_in s) in
     let x = open_fits o s at in
     let fits = at.is_state.processes at.up in
-    let others = others_open o s at now is in
-    let stood = node_stood s.room s.tree s.processes s.processes at.is_state.tree fits d.ino x.node x.is_there (λ still. still) in
-    let held : HoldsAll p old.sectors (placed (swept s.tree s.processes)) =
-    subst (λ (t : Tree). HoldsAll p old.sectors (placed t)) (sym (nothing_to_drop s.room s.tree s.processes at.is_state.tree fits)) at.holds in
-    elim (left_node s.tree s.processes now x.node (parent s.tree d.ino) (held_node (state_tree at) d.ino x.node x.is_there) x.no_link stood leaves) [
+    let others = others_open place d o s at in
+    let stood = node_stood s.room s.tree s.processes s.openings was at.is_state.tree fits d.ino x.node x.is_there (λ still. still) in
+    let held : HoldsAll p old.sectors (placed (swept s.tree was)) =
+    subst (λ (t : Tree). HoldsAll p old.sectors (placed t)) (sym (nothing_to_drop s.room s.tree s.processes s.openings at.is_state.tree fits)) at.holds in
+    elim (left_node s.tree was now x.node (parent s.tree d.ino) (held_node (state_tree at) d.ino x.node x.is_there) x.no_link stood leaves) [
       | inl stay ↦
           kept (λ (m : SectorMap). HoldsAll p m (placed (swept s.tree now))) stay.1
-          (close_held s.room s.tree at.is_state.tree s.processes now d.ino others x.node x.is_there stood p old.sectors held stay.0)
+          (close_held s.room s.tree at.is_state.tree was now d.ino others x.node x.is_there stood p old.sectors held stay.0)
       | inr gone ↦
-          close_drop_held s.room s.tree at.is_state.tree s.processes now d.ino others x.node x.is_there stood p old.sectors held new.sectors gone.0
+          close_drop_held s.room s.tree at.is_state.tree was now d.ino others x.node x.is_there stood p old.sectors held new.sectors gone.0
           (open_below o s at) gone.1.touches.inode gone.1.clear gone.1.free
     ]

@@ -1,14 +1,14 @@
 -- What a directory is asked before something is made in it, once that is met.
 --     found_new        what was not found is a new name in a directory
 --     has_few, may_make        there is room for it
+use Rattle.call_parts.specs.BothTables.{Tables}
 use Rattle.std.specs.Prelude.{Bool}
 use Rattle.call_parts.specs.Callers.{Who, first_start}
 use Rattle.call_parts.proofs.Starts.{path_fits}
 use Rattle.std.specs.Prelude.{◌≡◌, ℕ, ◌<◌, ◌≤◌, ◌==◌, nat_lt, nat_le, false, List, length, None}
 use Rattle.std.proofs.Common.{sym, subst, arith, ◌∙◌}
-use Rattle.std.specs.List.{list_any}
 use Rattle.std.proofs.lemmas.Bool.Decides.{nat_tests}
-use Rattle.fs_cred.specs.declared.errno.Errno.TheVariants.{ENOENT, EINVAL, ENOSPC}
+use Rattle.fs_cred.specs.declared.errno.Errno.TheVariants.{ENOSPC}
 use Rattle.fs_cred.specs.Credentials.{Credential}
 use Rattle.fs_layout.specs.declared.geometry.Geometry.{Geometry}
 use Rattle.fs_layout.specs.Bytes.{SectorMap, IsBytes}
@@ -22,8 +22,7 @@ use Rattle.fs_model.specs.Births.{the_node}
 use Rattle.fs_model.specs.Demands.{refuse, first_of, permission_on, write_and_search}
 use Rattle.fs_model.specs.Limits.{least_free}
 use Rattle.fs_model.specs.Nodes.{Node, names_of_body}
-use Rattle.fs_model.specs.Parts.{is_empty}
-use Rattle.fs_model.specs.Processes.{Process, ProcessTable}
+use Rattle.fs_model.specs.Processes.{Process}
 use Rattle.fs_model.specs.Stands.{room_of}
 use Rattle.fs_model.specs.States.{State}
 use Rattle.fs_model.specs.Steps.{found_by}
@@ -37,9 +36,9 @@ use Rattle.call_parts.specs.Performing.{IsStateOf}
 use Rattle.call_parts.specs.Makings.{CanMake, make_asked}
 use Rattle.call_parts.proofs.Shown.{the_node_is}
 
-pub found_new : {p : Geometry} {map : SectorMap} {processes : ProcessTable} {s : State} {who : Who} {q : Process} {links : Bool} {form : Form} {path : List ℕ} {f : Found}
-    → IsStateOf p map processes s → HasFound s who q links form path f → IsBytes path → f.ino ≡ None → IsNameAt s.room s.tree f.dir_ino f.name None
-found_new {p} {map} {processes} {s} {who} {q} {links} {form} {path} {f} at has bytes none =
+pub found_new : {p : Geometry} {map : SectorMap} {tables : Tables} {s : State} {who : Who} {q : Process} {links : Bool} {form : Form} {path : List ℕ} {f : Found}
+    → IsStateOf p map tables s → HasFound s who q links form path f → IsBytes path → f.ino ≡ None → IsNameAt s.room s.tree f.dir_ino f.name None
+found_new {p} {map} {tables} {s} {who} {q} {links} {form} {path} {f} at has bytes none =
     let walked : IsWalked s.room s.tree form (found_by s.room s.tree (first_start who q) (form, path)) =
     is_walked s.room at.is_state.room.name_limit s.tree at.is_state.tree q.cred (first_start who q) 1 (form, path) bytes (path_fits who path has.checked).no_zero has.unrefused in
     (subst (IsWalked s.room s.tree form) (sym has.is) walked).new none

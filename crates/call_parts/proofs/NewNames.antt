@@ -7,7 +7,7 @@
 --     name_is_new, fresh, placed_made, node_made        something was made of a new name
 --     name_refused, name_found, made_refused, made_may_touch, made_done        a call that makes something
 use Rattle.std.specs.Prelude.{Bool, false}
-use Rattle.call_parts.specs.Callers.{Who}
+use Rattle.call_parts.specs.Callers.{Who, ByCaller, told_by}
 use Rattle.call_parts.proofs.Starts.{stands_fits}
 use Rattle.std.specs.Prelude.{◌≡◌, ◌⊎◌, ℕ, ◌+◌, ◌-◌, ◌^◌, ◌<◌, ◌≤◌, ◌==◌, nat_lt, nat_le, List, [], ◌∷◌, ◌++◌, length, None, IsTrue, Result, Ok, Err, IsErr, IsErrAnd}
 use Rattle.std.proofs.Common.{refl, sym, ap, subst, arith, ◌∙◌, inl, inr}
@@ -41,6 +41,7 @@ use Rattle.fs_model.specs.Demands.{Demand, refuse, first_of}
 use Rattle.fs_model.specs.Limits.{least_free}
 use Rattle.fs_model.specs.Nodes.{Node, names_of_body, with_names}
 use Rattle.fs_model.specs.Processes.{Process, ProcessTable, is_open}
+use Rattle.call_parts.specs.BothTables.{Tables, tables_in, users_of}
 use Rattle.fs_model.specs.Scenes.{Scene, Effect, permission_at_dir, space_to_make, changes}
 use Rattle.fs_model.specs.States.{State, IsProcess}
 use Rattle.fs_model.specs.Steps.{HasNewNumber}
@@ -67,7 +68,7 @@ use Rattle.call_parts.proofs.Makeable.{found_new, has_few}
 use Rattle.call_parts.proofs.NewFile.{dir_below, dir_still_held, nothing_stands}
 use Rattle.call_parts.proofs.Checked.{refused_as}
 use Rattle.call_parts.proofs.Ownership.{others_asked, all_met}
-use Rattle.call_parts.proofs.Reachings.{asked_refused, changed}
+use Rattle.call_parts.proofs.Reachings.{asked_refused, changed_told}
 use Rattle.call_parts.proofs.Refuses.{Refuses, refuses_some}
 use Rattle.call_parts.proofs.Shown.{the_node_is}
 use Rattle.call_parts.specs.Altering.{AltersDisk}
@@ -147,15 +148,15 @@ pub record ParentFits (room : Room) (t : Tree) (node : Node) : Type 0 where
   pub body : IsBody room t node.body
 
 -- the caller is one of the state
-pub caller_fits : {p : Geometry} {map : SectorMap} {processes : ProcessTable} {s : State} {who : Who} {q : Process} {links : Bool} {form : Form} {path : List ℕ} {f : Found}
-    → IsStateOf p map processes s → HasFound s who q links form path f → IsProcess s.tree q
-caller_fits {p} {map} {processes} {s} {who} {q} at has = stands_fits s who q at.is_state at.up has.there
+pub caller_fits : {p : Geometry} {map : SectorMap} {tables : Tables} {s : State} {who : Who} {q : Process} {links : Bool} {form : Form} {path : List ℕ} {f : Found}
+    → IsStateOf p map tables s → HasFound s who q links form path f → IsProcess s.tree q
+caller_fits {p} {map} {tables} {s} {who} {q} at has = stands_fits s who q at.is_state at.up has.there
 
 -- what a call asks that makes something, after what it asks of the name
 abbrev pub space_at : Scene → List Demand
 space_at s = permission_at_dir s s.first 1 ∷ space_to_make s
 
-module _ {p : Geometry} {map : SectorMap} {processes : ProcessTable} {s : State} (at : IsStateOf p map processes s) (q : Process) (f : Found) where
+module _ {p : Geometry} {map : SectorMap} {tables : Tables} {s : State} (at : IsStateOf p map tables s) (q : Process) (f : Found) where
   abbrev space : List Demand
   space = space_at (scene_at s q f)
 
@@ -222,7 +223,7 @@ module _ {p : Geometry} {map : SectorMap} {processes : ProcessTable} {s : State}
           (made.names.named (names_of_body directory.body) (names_say p.version made.mid before directory.body name_is_new.directory held.body))
 
       -- the map holds the tree with it
-      pub placed_made : (now : ProcessTable) → ((k : ℕ) → IsTrue (is_open s.processes k) → IsTrue (is_open now k)) → length (names_of_body directory.body) < max_names p.version
+      pub placed_made : (now : ProcessTable) → ((k : ℕ) → IsTrue (is_open (users_of (tables_in s)) k) → IsTrue (is_open now k)) → length (names_of_body directory.body) < max_names p.version
           → HoldsAll p new (placed (swept (changed_tree s.tree (Make f.dir_ino f.name n node)) now))
       placed_made now still few =
           make_held s at.is_state at.up now still p map at.holds at.same_room made.mid new f.dir_ino directory f.name n node (record {
@@ -235,26 +236,29 @@ module _ {p : Geometry} {map : SectorMap} {processes : ProcessTable} {s : State}
 
       -- the node was made
       pub node_made : (asked : List Demand) → first_of asked ≡ None → first_of (make_asked p map q.cred s.tree f.dir_ino (f.step - 1)) ≡ None
-          → IsChange p new processes s q asked (λ k. changes (scene_at s q f) (Make f.dir_ino f.name k node)) Done ((f.dir_ino, Modified) ∷ (n, Born) ∷ [])
-      node_made asked met allows = record {
-        met = met;
-        number = n;
-        change = Make f.dir_ino f.name n node;
-        is = refl;
-        new_number = fresh;
-        times = refl;
-        holds = placed_made processes (λ k is. subst (λ (d : ProcessTable). IsTrue (is_open d k)) at.same_processes is)
-            (subst (λ (u : Node). length (names_of_body u.body) < max_names p.version) (the_node_is s.tree f.dir_ino directory name_is_new.stands) (has_few p map s.tree f.dir_ino q.cred (f.step - 1) allows));
-      }
+          → (c : IsChange p new tables s q asked (λ k. changes (scene_at s q f) (Make f.dir_ino f.name k node)) Done ((f.dir_ino, Modified) ∷ (n, Born) ∷ [])) × (c.number ≡ n)
+      node_made asked met allows = (
+        record {
+          met = met;
+          number = n;
+          change = Make f.dir_ino f.name n node;
+          is = refl;
+          new_number = fresh;
+          times = refl;
+          holds = placed_made (users_of tables) (λ k is. subst (λ (d : Tables). IsTrue (is_open (users_of d) k)) at.same_tables is)
+              (subst (λ (u : Node). length (names_of_body u.body) < max_names p.version) (the_node_is s.tree f.dir_ino directory name_is_new.stands) (has_few p map s.tree f.dir_ino q.cred (f.step - 1) allows));
+        },
+        refl,
+      )
 
 -- ---- a call that makes something, by its row
 
 module _ {who : Who} {call : Call} {checks : Checked} {path : List ℕ} (asked : Found → List Demand) {effect : Scene → ℕ → Effect}
-    (is : WalksPath who call checks false Parent path (λ x. asked x.first ++ space_at x) effect) {p : Geometry} {old mid : TxnState} {processes : ProcessTable} {q : Process} {f : Found}
-    (same : IsUnchanged old mid) (w : HasWalked p mid processes who checks false Parent path q f) where
+    (is : WalksPath who call checks false Parent path (λ x. asked x.first ++ space_at x) effect) {p : Geometry} {old mid : TxnState} {tables : Tables} {q : Process} {f : Found}
+    (same : IsUnchanged old mid) (w : HasWalked p mid tables who checks false Parent path q f) where
   -- the name isn't new
   pub name_refused : {time : ℕ} (r : Result Reply Refusal) (e : Refusal) → IsErr r × IsErrAnd r (λ y. y ≡ e) → {d : Demand} → Refuses d (first_of (asked f)) → checked d ≡ Err e
-      → Performs p time who call old mid processes processes r
+      → Performs p time (ByCaller who call) old mid tables tables r
   name_refused r e err {d} refuses is_refused = asked_refused is same w mid r e err.0 err.1 store_same {A = Unit {0}} tt
       (λ s has at.
       inl (ap checked
@@ -271,22 +275,22 @@ module _ {who : Who} {call : Call} {checks : Checked} {path : List ℕ} (asked :
     pub made_refused : {time : ℕ} (r : Result Reply Refusal) (e : Refusal) → IsErr r × IsErrAnd r (λ y. y ≡ e) → SameStore mid new → first_of (asked f) ≡ None
         → ((t : Tree) → HoldsTree p mid.sectors t → IsNewIn p t f.dir_ino f.name
         → IsAnswered mid.disk new.disk (refused_or {A = Unit {0}} (first_of (make_asked p mid.sectors q.cred t f.dir_ino (f.step - 1))) (Ok tt)) (Err e))
-        → Performs p time who call old new processes processes r
+        → Performs p time (ByCaller who call) old new tables tables r
     made_refused r e err store met each = asked_refused is same w new r e err.0 err.1 store {A = Unit {0}} tt
         (λ s has at. space_refused at q f (asked f) met e mid.disk new.disk (each s.tree (state_tree at) (new_in at q f has w.bytes none)))
 
   -- the object is made, at this number
   module _ (none : f.ino ≡ None) (last : TxnState) (n : ℕ) (node : Tree → Node)
       (each : (t : Tree) → HoldsTree p mid.sectors t → IsNewIn p t f.dir_ino f.name → IsMade p mid last q.cred t f (node t) (Ok n))
-      (says : (s : State) → HasFound s who q false Parent path f → IsStateOf p mid.sectors processes s → first_of (make_asked p mid.sectors q.cred s.tree f.dir_ino (f.step - 1)) ≡ None
+      (says : (s : State) → HasFound s who q false Parent path f → IsStateOf p mid.sectors tables s → first_of (make_asked p mid.sectors q.cred s.tree f.dir_ino (f.step - 1)) ≡ None
       → MakesNode p f.dir_ino f.name n (node s.tree) mid.sectors last.sectors
-      → IsChange p last.sectors processes s q (asked f ++ space_at (scene_at s q f)) (effect (scene_at s q f)) Done ((f.dir_ino, Modified) ∷ (n, Born) ∷ [])) where
-    made_at : (s : State) → IsStateOf p mid.sectors processes s → HasFound s who q false Parent path f
+      → (c : IsChange p last.sectors tables s q (asked f ++ space_at (scene_at s q f)) (effect (scene_at s q f)) Done ((f.dir_ino, Modified) ∷ (n, Born) ∷ [])) × (c.number ≡ n)) where
+    made_at : (s : State) → IsStateOf p mid.sectors tables s → HasFound s who q false Parent path f
         → (first_of (make_asked p mid.sectors q.cred s.tree f.dir_ino (f.step - 1)) ≡ None) × MakesNode p f.dir_ino f.name n (node s.tree) mid.sectors last.sectors
     made_at s at has = each s.tree (state_tree at) (new_in at q f has w.bytes none)
 
-    made_change : (s : State) → HasFound s who q false Parent path f → IsStateOf p mid.sectors processes s
-        → IsChange p last.sectors processes s q (asked f ++ space_at (scene_at s q f)) (effect (scene_at s q f)) Done ((f.dir_ino, Modified) ∷ (n, Born) ∷ [])
+    made_change : (s : State) → HasFound s who q false Parent path f → IsStateOf p mid.sectors tables s
+        → (c : IsChange p last.sectors tables s q (asked f ++ space_at (scene_at s q f)) (effect (scene_at s q f)) Done ((f.dir_ino, Modified) ∷ (n, Born) ∷ [])) × (c.number ≡ n)
     made_change s has at = let m = made_at s at has in says s has at m.0 m.1
 
     -- the times of the new object and of the directory may move
@@ -296,13 +300,15 @@ module _ {who : Who} {call : Call} {checks : Checked} {path : List ℕ} (asked :
         let at = ready.is_state in
         let has = w.found ready.state at in
         let d = new_in at q f has w.bytes none in
-        may_touch ready store (made_change ready.state has at)
+        may_touch ready store (made_change ready.state has at).0
         (number_below (state_tree at) f.dir_ino (is_there ready.state.tree f.dir_ino d.directory.node d.directory.is_there), ((made_at ready.state at has).1.takes.free.1, tt))
         k taken (omega (arith, few))
 
-    -- and it is done
-    pub made_done : {time : ℕ} {new : TxnState} → SameStore mid last → MovesTimes p time ((f.dir_ino, Modified) ∷ (n, Born) ∷ []) last new → Performs p time who call old new processes processes (Ok Done)
-    made_done store moved =
+    -- and it is done, as the caller is told
+    pub made_done : {time : ℕ} {new : TxnState} (answer : Reply) → told_by who call n Done ≡ answer → SameStore mid last → MovesTimes p time ((f.dir_ino, Modified) ∷ (n, Born) ∷ []) last new
+        → Performs p time (ByCaller who call) old new tables tables (Ok answer)
+    made_done answer tells store moved =
         let ready = w.ready in
         let done = (made_at ready.state ready.is_state (w.found ready.state ready.is_state)).1 in
-        changed is same w last store (done.names.super ∙ done.takes.super) moved Done made_change
+        changed_told is same w last store (done.names.super ∙ done.takes.super) moved Done answer
+        (λ s has at. let c = made_change s has at in (c.0, ap (λ k. told_by who call k Done) c.1 ∙ tells))

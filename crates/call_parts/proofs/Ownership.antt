@@ -1,4 +1,5 @@
 -- What the caller owns of what it has found, as its inode says it.
+use Rattle.call_parts.specs.BothTables.{Tables}
 use Rattle.std.specs.Prelude.{Bool}
 use Rattle.call_parts.specs.Callers.{Who}
 use Rattle.std.specs.Prelude.{◌≡◌, ◌≢◌, ℕ, ◌<◌, ◌^◌, List, [], ◌∷◌, ◌++◌, Option, None, Some, unwrap_or, Ok, Err}
@@ -20,7 +21,7 @@ use Rattle.fs_model.specs.AttributeCalls.{chown_demands, chown_effect, owned}
 use Rattle.fs_model.specs.Births.{the_node}
 use Rattle.fs_model.specs.Demands.{Demand, or_else, first_of}
 use Rattle.fs_model.specs.Nodes.{Node}
-use Rattle.fs_model.specs.Processes.{Process, ProcessTable}
+use Rattle.fs_model.specs.Processes.{Process}
 use Rattle.fs_model.specs.Scenes.{found_ino, must_be_there, own_at_end}
 use Rattle.fs_model.specs.States.{State}
 use Rattle.fs_model.specs.StoredNodes.{HoldsNode}
@@ -86,8 +87,8 @@ node_of {p} {map} {t} h f n v is inode there =
 
 -- ---- to own it is asked
 
-module _ {p : Geometry} {map : SectorMap} {processes : ProcessTable} {s : State} {who : Who} {q : Process} {links : Bool} {form : Form} {path : List ℕ} {f : Found} {n : ℕ} {v : Inode}
-    (at : IsStateOf p map processes s) (has : HasFound s who q links form path f) (i : IsInodeFound p map f n v) where
+module _ {p : Geometry} {map : SectorMap} {tables : Tables} {s : State} {who : Who} {q : Process} {links : Bool} {form : Form} {path : List ℕ} {f : Found} {n : ℕ} {v : Inode}
+    (at : IsStateOf p map tables s) (has : HasFound s who q links form path f) (i : IsInodeFound p map f n v) where
   pub found_node : IsNode p.version map s.tree f n v
   found_node = node_of (state_tree at) f n v i.number i.inode (found_there n at has i.some)
 
@@ -116,8 +117,8 @@ owner_rest owner group s q f =
 pub owner_given : (v : Inode) (uid gid : ℕ) → FitsInode v → v.kind ≢ kinds.Free → uid < 2 ^ 32 → gid < 2 ^ 32 → FitsInode (record v { uid = uid; gid = gid })
 owner_given v uid gid fits used u g = attributes_fit v uid gid v.names v.parent fits used u g fits.names fits.parent
 
-module _ {p : Geometry} {map : SectorMap} {processes : ProcessTable} {s : State} {who : Who} {q : Process} {links : Bool} {form : Form} {path : List ℕ} {f : Found} {n : ℕ} {v : Inode}
-    (at : IsStateOf p map processes s) (has : HasFound s who q links form path f) (i : IsInodeFound p map f n v) where
+module _ {p : Geometry} {map : SectorMap} {tables : Tables} {s : State} {who : Who} {q : Process} {links : Bool} {form : Form} {path : List ℕ} {f : Found} {n : ℕ} {v : Inode}
+    (at : IsStateOf p map tables s) (has : HasFound s who q links form path f) (i : IsInodeFound p map f n v) where
   module _ (owner group : Option ℕ) (uid gid : ℕ) (uid_is : uid ≡ unwrap_or owner v.uid) (gid_is : gid ≡ unwrap_or group v.gid) where
     owner_is : chown_demands owner group (scene_at s q f) ≡ must_be_there f ∷ owner_asked q.cred v.uid v.gid uid gid f.step
     owner_is =
@@ -144,7 +145,7 @@ module _ {p : Geometry} {map : SectorMap} {processes : ProcessTable} {s : State}
     pub owner_changed : {B : Type 0} (cred : Credential) (y : B) (new : SectorMap) → cred ≡ q.cred
         → refused_or (first_of (owner_asked cred v.uid v.gid uid gid f.step)) (Ok y) ≡ Ok y
         → GivesOwner p n uid gid map new
-        → IsChange p new processes s q (chown_demands owner group (scene_at s q f)) (chown_effect owner group (scene_at s q f)) Done ((n, Changed) ∷ [])
+        → IsChange p new tables s q (chown_demands owner group (scene_at s q f)) (chown_effect owner group (scene_at s q f)) Done ((n, Changed) ∷ [])
     owner_changed {B} cred y new same given gives =
         let x = found_node at has i in
         let is = (at.is_state.tree).each n x.node x.at in

@@ -1,6 +1,8 @@
--- Calls of processes, each handed to its function.
+-- Calls, each handed to its function.
 --     performed        what that promises of its call, of the call that was matched
 --     performed_for        the same of a caller that was made of who asks
+use Rattle.call_parts.specs.BothTables.{Tables}
+use Rattle.call_parts.specs.Callers.{ByCaller}
 use Rattle.call_parts.specs.Callers.{Who}
 use Rattle.std.specs.Prelude.{◌≡◌, ℕ, Result}
 use Rattle.std.proofs.Common.{sym, subst}
@@ -9,13 +11,12 @@ use Rattle.fs_cred.specs.declared.refusal.Refusal.{Refusal}
 use Rattle.sector_txn.specs.Sectors.{TxnState}
 use Rattle.fs_model.specs.declared.call.Call.{Call}
 use Rattle.fs_model.specs.declared.reply.Reply.{Reply}
-use Rattle.fs_model.specs.Processes.{ProcessTable}
 use Rattle.call_parts.specs.declared.reaching.Caller.{Caller}
 use Rattle.call_parts.specs.Performing.{Performs, PerformsBy, PerformsFor}
 
-pub performed : (p : Geometry) (time : ℕ) (who : Who) (call this : Call) (old new : TxnState) (before now : ProcessTable) (result : Result Reply Refusal) → call ≡ this
-    → Performs p time who this old new before now result → Performs p time who call old new before now result
-performed p time who call this old new before now result is h = subst (λ (q : Call). Performs p time who q old new before now result) (sym is) h
+pub performed : (p : Geometry) (time : ℕ) (who : Who) (call this : Call) (old new : TxnState) (before now : Tables) (result : Result Reply Refusal) → call ≡ this
+    → Performs p time (ByCaller who this) old new before now result → Performs p time (ByCaller who call) old new before now result
+performed p time who call this old new before now result is h = subst (λ (q : Call). Performs p time (ByCaller who q) old new before now result) (sym is) h
 
 pub performed_for : {made caller : Caller} {call this : Call} {old new : TxnState} {result : Result Reply Refusal} → made ≡ caller → call ≡ this
     → PerformsFor made this old new result → PerformsFor caller call old new result

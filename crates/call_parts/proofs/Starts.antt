@@ -6,7 +6,7 @@
 --     start_no_link        where the first is a link, its path isn't empty
 --     types_are        what is asked of them, by the types of what stands there
 use Rattle.std.specs.Prelude.{◌≡◌, ℕ, ◌≤◌, ◌==◌, nat_lt, Bool, true, false, not, ◌&&◌, List, [], ◌∷◌, length, Option, None, Some, is_some, IsTrue, IsFalse}
-use Rattle.std.proofs.Common.{refl, sym, ap, subst, ◌∙◌, arith}
+use Rattle.std.proofs.Common.{refl, sym, ap, subst, arith}
 use Rattle.std.proofs.lemmas.Bool.{not-false}
 use Rattle.std.proofs.lemmas.Bool.Decides.{nat_tests}
 use Rattle.std.specs.List.{list_any}
@@ -54,8 +54,8 @@ path_fits (ByActor v) (b ∷ path) met = checked_fits (b ∷ path) met
 -- ---- the caller
 
 pub may_make : (who : Who) (call : Call) {links : Bool} → IsTrue (is_actor_call call) → acts_on_links call ≡ links → MayMake who call links
-may_make (ByProcess pid) call visit acts = tt
-may_make (ByActor v) call visit acts = (visit, acts)
+may_make (ByProcess pid) call called acts = tt
+may_make (ByActor v) call called acts = (called, acts)
 
 pub stands_fits : (s : State) (who : Who) (q : Process) → IsState s → IsFalse s.halted → IsJudgedAs s.processes who q → IsProcess s.tree q
 stands_fits s (ByProcess pid) q is up there = (is.processes up).each_process pid q there
@@ -69,7 +69,7 @@ module _ (s : State) (q : Process) (links : Bool) (path : List ℕ) (is : IsStat
       not-false (is_some (node_at s.tree v.start)) (unrefused ENOENT (not (is_some (node_at s.tree v.start))) (first_met (refuse ENOENT (not (is_some (node_at s.tree v.start)))) _ met))
 
   pub second_start_there : (who : Who) → IsJudgedAs s.processes who q → first_of (starts_asked s.tree who links path) ≡ None → IsThere s.tree (second_start who q)
-  second_start_there (ByProcess pid) there met = let d = ((is.processes up).each_process pid q there).second_cwd in is_there s.tree q.second_cwd d.node d.is_there
+  second_start_there (ByProcess pid) there met = let d = ((is.processes up).each_process pid q there).cwd in is_there s.tree q.cwd d.node d.is_there
   second_start_there (ByActor v) there met =
       let later = then_met (refuse ENOENT (not (is_some (node_at s.tree v.start)))) _ met in
       not-false (is_some (node_at s.tree v.second_start))

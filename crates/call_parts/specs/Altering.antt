@@ -10,11 +10,11 @@ use Rattle.fs_layout.specs.Bytes.{SectorMap}
 use Rattle.sector_txn.specs.Sectors.{TxnState, SameStore}
 use Rattle.bit_alloc.specs.Inodes.{IsSound}
 use Rattle.bit_alloc.specs.Room.{HasSpare, TakesSpare}
-use Rattle.fs_model.specs.Processes.{ProcessTable}
 use Rattle.fs_model.specs.Stands.{HoldsAll, placed}
 use Rattle.fs_model.specs.States.{State}
 use Rattle.fs_model.specs.TreeChanges.{Change, changed, swept}
 use Rattle.path_walk.specs.Answers.{FailsToRead}
+use Rattle.call_parts.specs.BothTables.{Tables, users_of}
 use Rattle.call_parts.specs.Performing.{IsStateOf}
 
 pub record MayAlter (p : Geometry) (more : ℕ) (txn : TxnState) : Type 0 where
@@ -36,6 +36,6 @@ pub record AltersTransaction (change : TxnState → TxnState → Type 0) (old ne
   pub fault : IfErr result (FailsToRead old.disk new.disk)
 
 -- The new map holds what the old one held, with this change, wherever it may be made.
-pub record HoldsChange (p : Geometry) (processes : ProcessTable) (may : State → Type 0) (change : Change) (old new : SectorMap) : Type 0 where
+pub record HoldsChange (p : Geometry) (tables : Tables) (may : State → Type 0) (change : Change) (old new : SectorMap) : Type 0 where
   pub super : new 0 ≡ old 0
-  pub holds : (s : State) → IsStateOf p old processes s → may s → HoldsAll p new (placed (swept (changed s.tree change) processes))
+  pub holds : (s : State) → IsStateOf p old tables s → may s → HoldsAll p new (placed (swept (changed s.tree change) (users_of tables)))

@@ -15,3 +15,4 @@ pub mod Times
 pub mod Telling
 pub mod Altering
 pub mod Space
+pub mod BothTables

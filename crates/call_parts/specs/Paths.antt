@@ -3,10 +3,9 @@
 --     walk_by        what its walk answers
 --     HasFound        nothing has refused it yet, and its walk has found this
 --     IsTold        what a call answers that changes nothing
-use Rattle.std.specs.Prelude.{◌≡◌, ℕ, Bool, List, None, Some, Result, Ok, Err}
+use Rattle.std.specs.Prelude.{◌≡◌, ℕ, Bool, List, None, Result, Ok, Err}
 use Rattle.sector_disk.specs.Disk.{DiskState}
 use Rattle.fs_cred.specs.declared.refusal.Refusal.{Refusal}
-use Rattle.fs_model.specs.declared.call.Call.{Call}
 use Rattle.fs_model.specs.declared.reply.Reply.{Reply}
 use Rattle.fs_model.specs.declared.walk.Form.{Form}
 use Rattle.fs_model.specs.declared.walk.Found.{Found}
@@ -14,10 +13,10 @@ use Rattle.fs_model.specs.Demands.{or_else, first_of}
 use Rattle.fs_model.specs.Processes.{Process}
 use Rattle.fs_model.specs.Scenes.{Scene}
 use Rattle.fs_model.specs.States.{State}
-use Rattle.fs_model.specs.Steps.{after, firm_refusal, other_refusal, found_by, nothing_found, trail_in, unchanged}
+use Rattle.fs_model.specs.Steps.{HasNewHandle, after, firm_refusal, other_refusal, found_by, nothing_found, trail_in, unchanged}
 use Rattle.fs_model.specs.Walks.{first_refusal}
 use Rattle.path_walk.specs.Answers.{refused_or}
-use Rattle.call_parts.specs.Callers.{Who, event, IsJudgedAs, first_start, path_asked, starts_asked}
+use Rattle.call_parts.specs.Callers.{Who, AnyCall, event_of, IsJudgedAs, first_start, path_asked, starts_asked}
 use Rattle.call_parts.specs.Performing.{IsRefused, chosen}
 
 -- the second path of such a call finds nothing, since there is none
@@ -39,9 +38,9 @@ pub record HasFound (s : State) (who : Who) (p : Process) (links : Bool) (form :
   pub unrefused : first_refusal s.tree p.cred 1 form (trail_in s.room s.tree (first_start who p) (form, path)) ≡ None
   pub is : found ≡ found_by s.room s.tree (first_start who p) (form, path)
 
--- a reply with which nothing changes, or why the call is refused
-abbrev pub IsTold : DiskState → DiskState → State → Who → Call → Result Reply Refusal → Type 0
-IsTold old new s who call (Ok reply) =
-    (firm_refusal s (event who call) ≡ None) × (other_refusal s (event who call) ≡ None)
-    × (after s (event who call) (chosen 0 0) ≡ unchanged s reply)
-IsTold old new s who call (Err r) = IsRefused old new s who call r
+-- a reply with which nothing changes, or why the request is refused
+abbrev pub IsTold : DiskState → DiskState → State → AnyCall → Result Reply Refusal → Type 0
+IsTold old new s r (Ok reply) =
+    (firm_refusal s (event_of r) ≡ None) × (other_refusal s (event_of r) ≡ None) × HasNewHandle s (event_of r) 0
+    × (after s (event_of r) (chosen 0 0 0) ≡ unchanged s reply)
+IsTold old new s r (Err e) = IsRefused old new s r e

@@ -23,6 +23,7 @@ use Rattle.path_walk.specs.Answers.{refused_or, Interrupts, IsAnswered}
 use Rattle.path_walk.specs.HeldTrees.{HoldsTree, IsThere}
 use Rattle.call_parts.specs.declared.reaching.Caller.{Caller}
 use Rattle.call_parts.specs.declared.reaching.WalkedBoth.{WalkedBoth}
+use Rattle.call_parts.specs.BothTables.{tables_of}
 use Rattle.call_parts.specs.TwoPaths.{scene_with, FindsBoth}
 
 abbrev pub Checked : Type 0
@@ -74,7 +75,7 @@ abbrev pub FoundThere : Found → Tree → Type 0
 FoundThere f t = (n : ℕ) → f.ino ≡ Some n → IsThere t n
 
 abbrev pub FindsWalked : Caller → SectorMap → WalkedBoth → State → Type 0
-FindsWalked c map w s = FindsBoth c.geometry map c.procs.now w.process w.first w.second s
+FindsWalked c map w s = FindsBoth c.geometry map (tables_of c) w.process w.first w.second s
 
 abbrev pub scene_walked : WalkedBoth → State → Scene
 scene_walked w s = scene_with s w.process w.first w.second

@@ -2,8 +2,8 @@
 --     both_asked, walks_by        what is asked of both paths, and what both walks answer
 --     scene_with        what such a call finds
 --     HasFoundBoth        nothing has refused it yet, and its walks have found these
---     FindsBoth        in a state of this map and this table
-use Rattle.std.specs.Prelude.{◌≡◌, ℕ, Bool, List, ◌++◌, None, Some, Result, Ok}
+--     FindsBoth        in a state of this map and these tables
+use Rattle.std.specs.Prelude.{◌≡◌, ℕ, Bool, List, ◌++◌, None, Result, Ok}
 use Rattle.fs_cred.specs.Credentials.{Credential}
 use Rattle.fs_cred.specs.declared.refusal.Refusal.{Refusal}
 use Rattle.fs_layout.specs.declared.geometry.Geometry.{Geometry}
@@ -11,13 +11,14 @@ use Rattle.fs_layout.specs.Bytes.{SectorMap, IsBytes}
 use Rattle.fs_model.specs.declared.walk.Form.TheVariants.{Parent}
 use Rattle.fs_model.specs.declared.walk.Found.{Found}
 use Rattle.fs_model.specs.Demands.{Demand, or_else, first_of}
-use Rattle.fs_model.specs.Processes.{Process, ProcessTable}
+use Rattle.fs_model.specs.Processes.{Process}
 use Rattle.fs_model.specs.Scenes.{Scene}
 use Rattle.fs_model.specs.States.{State}
 use Rattle.fs_model.specs.Steps.{found_by, trail_in}
 use Rattle.fs_model.specs.Trees.{Tree, Room}
 use Rattle.fs_model.specs.Walks.{first_refusal}
 use Rattle.path_walk.specs.Answers.{refused_or}
+use Rattle.call_parts.specs.BothTables.{Tables}
 use Rattle.call_parts.specs.Callers.{Who, IsJudgedAs, first_start, second_start, path_asked, starts_asked}
 use Rattle.call_parts.specs.Performing.{IsStateOf}
 
@@ -49,13 +50,13 @@ pub record HasFoundBoth (s : State) (who : Who) (p : Process) (links : Bool) (ol
   pub first_is : f ≡ found_by s.room s.tree (first_start who p) (Parent, old)
   pub second_is : g ≡ found_by s.room s.tree (second_start who p) (Parent, new)
 
--- in a state of this map and this table the process has found these
-pub record FindsBoth (p : Geometry) (map : SectorMap) (processes : ProcessTable) (q : Process) (f g : Found) (s : State) : Type 0 where
+-- in a state of this map and these tables the process has found these
+pub record FindsBoth (p : Geometry) (map : SectorMap) (tables : Tables) (q : Process) (f g : Found) (s : State) : Type 0 where
   pub who : Who
   pub links : Bool
   pub old : List ℕ
   pub new : List ℕ
   pub old_bytes : IsBytes old
   pub new_bytes : IsBytes new
-  pub is_state : IsStateOf p map processes s
+  pub is_state : IsStateOf p map tables s
   pub found : HasFoundBoth s who q links old new f g

@@ -1,7 +1,7 @@
 //! What calls stand on: reaching what a path leads to, asking what is asked of it, and the smallest changes of a tree on a
 //! disk.
 //!
-//! A call is one step of the abstract machine, made in a transaction by the process of a number. Its parts stand here, each
+//! A call is one step of the abstract machine, made in a transaction by a process or an actor. Its parts stand here, each
 //! with its own promise: the walk of its paths and the inode that is found, one check for each demand, space, what is
 //! made, named, counted or freed, and times that move.
 #![tactic(auto)]
@@ -17,6 +17,7 @@ pub use asking::{
 };
 pub use changing::{drop_node, leave, name_inode, remove_name, set_names, touch};
 pub use reaching::{
-    Asker, By, CallResult, Caller, OpenFor, Reached, Walked, WalkedBoth, find_open, inode_found,
-    reach, reach_open, reach_owned, type_at, walk_both, walk_path,
+    By, CallResult, Caller, OpenAt, OpenFor, Reached, Site, Walked, WalkedBoth, check_from,
+    close_at, find, find_open, inode_found, reach, reach_open, reach_owned, seek_at, stays_open,
+    walk_both, walk_path,
 };

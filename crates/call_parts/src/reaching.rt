@@ -1,6 +1,6 @@
 //! Who makes a call, and how it reaches what it acts on.
 
-ghost use Rattle.std.specs.Prelude.{◌≡◌, ◌<◌, ℕ, None, Some, Ok, Err, IfOk, IfErr};
+ghost use Rattle.std.specs.Prelude.{◌≡◌, ◌<◌, ℕ, None, Some, Ok, Err, IsOk, IfOk, IfErr};
 ghost use Rattle.fs_layout.specs.Images.{inode_at};
 ghost use Rattle.sector_txn.specs.Sectors.{IsUnchanged};
 ghost use Rattle.bit_alloc.specs.Inodes.{IsSound};
@@ -8,15 +8,18 @@ ghost use Rattle.fs_model.specs.Demands.{first_of};
 ghost use Rattle.fs_model.specs.Scenes.{found_ino, must_be_there};
 ghost use Rattle.fs_model.specs.Trees.{Tree};
 ghost use Rattle.path_walk.specs.Answers.{refused_or, IsAnswered};
-ghost use Rattle.call_parts.specs.Callers.{who_of, IsJudgedAs, IsAbsent, path_asked, starts_asked, types_asked, first_start, second_start};
+ghost use Rattle.fs_model.specs.Processes.{is_open, is_in_use};
+ghost use Rattle.fs_model.specs.declared.reply.Reply.TheVariants.{Done};
+ghost use Rattle.call_parts.specs.BothTables.{both, tables_in, tables_of, users_of};
+ghost use Rattle.call_parts.specs.Callers.{who_of, made_reply, IsJudgedAs, IsAbsent, path_asked, starts_asked, types_asked, first_start, second_start};
 ghost use Rattle.path_walk.specs.HeldTrees.{HoldsTree};
 ghost use Rattle.call_parts.specs.Telling.{TellsAnswer, checked};
 ghost use Rattle.call_parts.specs.Types.{FindsType, FindsTypes};
 ghost use Rattle.call_parts.specs.Paths.{walk_by};
 ghost use Rattle.fs_model.specs.States.{State};
 ghost use Rattle.open_files.specs.Tables.{IsTable};
-ghost use Rattle.call_parts.specs.Performing.{IsStateOf, IsReadyFor};
-ghost use Rattle.call_parts.specs.Reaching.{RefusesWalk, RefusesReach, RefusesOwned, HasWalked, HasReached, HasOwned, RefusesBoth, HasWalkedBoth, IsNotOpen, RefusesOpen, IsOpenFor, HasOpened, opens_for};
+ghost use Rattle.call_parts.specs.Performing.{IsStateOf, MayPerform, IsReadyFor};
+ghost use Rattle.call_parts.specs.Reaching.{RefusesWalk, RefusesReach, RefusesOwned, HasWalked, HasReached, HasOwned, RefusesBoth, HasWalkedBoth, IsNotOpen, RefusesOpen, IsOpenFor, HasOpened, opens_for, opened_in, closed_in, moved_in};
 ghost use Rattle.fs_layout.specs.Bytes.{IsBytes};
 ghost use Rattle.call_parts.specs.TwoPaths.{both_asked, walks_by};
 
@@ -25,7 +28,7 @@ use fs_cred::{Errno, Need, Refusal, may_own};
 use fs_layout::{Geometry, Inode};
 use fs_model::{Actor, FileType, Form, Found, Path, Reply};
 use inode_table::load;
-use open_files::{Descriptor, Judged, Procs};
+use open_files::{Descriptor, Judged, Openings, Procs};
 use path_walk::{check_path, load_inode, walk};
 use sector_txn::Sectors;
 use std::alloc::Global;
@@ -37,41 +40,41 @@ pub enum By<'a> {
     Actor(&'a Actor),
 }
 
-/// Who calls, where and when: a process among all of them or an actor, the image that it calls on, and the present, as times
-/// count it.
+/// Who calls, where and when: a process among all of them or an actor, what actors have open, the image that it calls on, and the
+/// present, as times count it.
 #[derive(Clone, Copy)]
 pub struct Caller<'a> {
     pub alloc: Global,
     pub geometry: Geometry,
     pub time: u64,
     pub procs: &'a Procs,
+    pub openings: &'a Openings,
     pub by: By<'a>,
 }
 
 impl<'a> Caller<'a> {
-    /// Who calls, among these processes.
-    pub fn new(
-        alloc: Global,
-        geometry: Geometry,
-        time: u64,
-        procs: &'a Procs,
-        by: By<'a>,
-    ) -> Caller<'a>
-        ensures { result ≡ record {
-          alloc = alloc;
-          geometry = geometry;
-          time = time;
-          procs = procs.entry;
-          by = by.entry;
-        } }
+    /// What the caller is answered that has made something with this number: an actor is told the number.
+    pub fn made(&self, ino: u32) -> Reply
+        ensures { result ≡ made_reply (who_of self.now.by) ino Done }
     {
-        Caller {
-            alloc,
-            geometry,
-            time,
-            procs,
-            by,
+        match self.by {
+            By::Process(_) => Reply::Done,
+            By::Actor(_) => Reply::Made(ino),
         }
+    }
+
+    /// Whether a process or an actor has an inode open.
+    pub fn is_open(&self, ino: u32) -> bool
+        ensures { result ≡ is_open (users_of (tables_of self.now)) ino }
+    {
+        self.openings.is_open(ino) || self.procs.is_open(ino)
+    }
+
+    /// Whether an inode is the root, the current directory of a process, or open.
+    pub fn is_in_use(&self, ino: u32) -> bool
+        ensures { result ≡ is_in_use (users_of (tables_of self.now)) ino }
+    {
+        self.openings.is_open(ino) || self.procs.in_use(ino)
     }
 
     /// As which process its call is judged. `ESRCH`: there is no such process.
@@ -89,45 +92,42 @@ impl<'a> Caller<'a> {
     }
 }
 
-/// Who asks for a call, where and when: the process of this number, on this image, at the present.
+/// Where and when something is asked for: on this image, at the present.
 #[derive(Clone, Copy)]
-pub struct Asker {
+pub struct Site {
     pub alloc: Global,
     pub geometry: Geometry,
     pub time: u64,
-    pub pid: usize,
 }
 
-impl Asker {
-    /// The caller that it is among these processes.
-    pub fn caller(self, procs: &Procs) -> Caller<'_>
+impl Site {
+    /// Who calls there, among these processes and with what actors have open.
+    pub fn caller<'a>(self, procs: &'a Procs, openings: &'a Openings, by: By<'a>) -> Caller<'a>
         ensures { result ≡ record {
           alloc = self.alloc;
           geometry = self.geometry;
           time = self.time;
           procs = procs.entry;
-          by = By.Process self.pid;
+          openings = openings.entry;
+          by = by.entry;
         } }
     {
-        Caller::new(
-            self.alloc,
-            self.geometry,
-            self.time,
+        Caller {
+            alloc: self.alloc,
+            geometry: self.geometry,
+            time: self.time,
             procs,
-            By::Process(self.pid),
-        )
+            openings,
+            by,
+        }
     }
 }
 
 /// What a call answers.
 pub type CallResult = Result<Reply, Refusal>;
 
-/// The type of what stands at a number; `None` where nothing does. EIO: the disk has failed.
-pub fn type_at<S: Sectors>(
-    s: &mut S,
-    geometry: Geometry,
-    ino: u32,
-) -> Result<Option<FileType>, Errno>
+// The type of what stands at a number; `None` where nothing does. EIO: the disk has failed.
+fn type_at<S: Sectors>(s: &mut S, geometry: Geometry, ino: u32) -> Result<Option<FileType>, Errno>
     requires { IsSound geometry (S.state s.old) }
     ensures { FindsType geometry ino (S.state s.old) (S.state s.new) result }
 {
@@ -158,8 +158,8 @@ fn types_at<S: Sectors>(
     Ok((one, other))
 }
 
-// Checks a path before it is walked.
-fn check_from(by: By, path: &Path) -> Result<(), Refusal>
+/// Checks a path before it is walked.
+pub fn check_from(by: By, path: &Path) -> Result<(), Refusal>
     ensures { result ≡ checked (first_of (path_asked (who_of by.entry) path.now)) }
 {
     match by {
@@ -231,13 +231,13 @@ fn second_start(by: By, process: &Judged) -> u32
     ensures { result ≡ second_start (who_of by.entry) process.now }
 {
     match by {
-        By::Process(_) => process.second_cwd(),
+        By::Process(_) => process.cwd(),
         By::Actor(actor) => actor.second_start,
     }
 }
 
-// What a path leads to for a caller.
-fn find<S: Sectors>(
+/// What a path leads to for a caller.
+pub fn find<S: Sectors>(
     s: &mut S,
     caller: &Caller,
     process: &Judged,
@@ -249,7 +249,7 @@ fn find<S: Sectors>(
     requires stands { IsJudgedAs caller.now.procs.now (who_of caller.now.by) process.now }
     ensures checked { (refusal : Refusal) → first_of (path_asked (who_of caller.now.by) path.now) ≡ Some refusal → result ≡ Err refusal }
     ensures each { first_of (path_asked (who_of caller.now.by) path.now) ≡ None
-        → (st : State) → IsStateOf caller.now.geometry (S.state s.old).sectors caller.now.procs.now st
+        → (st : State) → IsStateOf caller.now.geometry (S.state s.old).sectors (tables_of caller.now) st
         → IsAnswered (S.state s.old).disk (S.state s.new).disk
         (walk_by st (who_of caller.now.by) process.now links form path.now) result }
     ensures valid { IfOk result (λ found. first_of (path_asked (who_of caller.now.by) path.now) ≡ None) }
@@ -295,7 +295,7 @@ fn find_names<S: Sectors>(
     ensures checked { (refusal : Refusal) → first_of (both_asked (who_of caller.now.by) old.now new.now) ≡ Some refusal
         → result ≡ Err refusal }
     ensures each { first_of (both_asked (who_of caller.now.by) old.now new.now) ≡ None
-        → (st : State) → IsStateOf caller.now.geometry (S.state s.old).sectors caller.now.procs.now st
+        → (st : State) → IsStateOf caller.now.geometry (S.state s.old).sectors (tables_of caller.now) st
         → IsAnswered (S.state s.old).disk (S.state s.new).disk
         (walks_by st (who_of caller.now.by) process.now links old.now new.now) result }
     ensures valid { IfOk result (λ found. first_of (both_asked (who_of caller.now.by) old.now new.now) ≡ None) }
@@ -358,7 +358,14 @@ pub struct WalkedBoth<'a> {
     pub second: Found,
 }
 
-/// What a call by a descriptor asks that it is open for.
+/// Where something is open: at a descriptor of the process of a number, or by a handle, to be read or written from an offset on.
+#[derive(Clone, Copy)]
+pub enum OpenAt {
+    Descriptor { pid: usize, fd: usize },
+    Handle { handle: u64, offset: u64 },
+}
+
+/// What is asked that something is open for.
 #[derive(Clone, Copy)]
 pub enum OpenFor {
     Anything,
@@ -379,10 +386,10 @@ pub fn walk_path<'a, S: Sectors>(
 ) -> Result<Walked<'a>, Refusal>
     requires ready { IsReadyFor caller.now (S.state s.old) }
     ensures refused { IfErr result (λ e. (st : State)
-        → IsStateOf caller.now.geometry (S.state s.old).sectors caller.now.procs.now st
+        → IsStateOf caller.now.geometry (S.state s.old).sectors (tables_of caller.now) st
         → RefusesWalk (S.state s.old).disk (S.state s.new).disk st (who_of caller.now.by) checks links form path.now e) }
     ensures walked { IfOk result (λ w. HasWalked caller.now.geometry (S.state s.new)
-        caller.now.procs.now (who_of caller.now.by) checks links form path.now w.process w.found) }
+        (tables_of caller.now) (who_of caller.now.by) checks links form path.now w.process w.found) }
     ensures same { IsUnchanged (S.state s.old) (S.state s.new) }
 {
     let _bytes = path.bytes();
@@ -403,10 +410,10 @@ pub fn reach<'a, S: Sectors>(
 ) -> Result<Reached<'a>, Refusal>
     requires ready { IsReadyFor caller.now (S.state s.old) }
     ensures refused { IfErr result (λ e. (st : State)
-        → IsStateOf caller.now.geometry (S.state s.old).sectors caller.now.procs.now st
+        → IsStateOf caller.now.geometry (S.state s.old).sectors (tables_of caller.now) st
         → RefusesReach (S.state s.old).disk (S.state s.new).disk st (who_of caller.now.by) checks links form path.now e) }
     ensures reached { IfOk result (λ r. HasReached caller.now.geometry (S.state s.new)
-        caller.now.procs.now (who_of caller.now.by) checks links form path.now r.process r.found r.ino r.inode) }
+        (tables_of caller.now) (who_of caller.now.by) checks links form path.now r.process r.found r.ino r.inode) }
     ensures same { IsUnchanged (S.state s.old) (S.state s.new) }
 {
     let Walked { process, found } = walk_path(s, caller, checks, path, links, form)?;
@@ -430,10 +437,10 @@ pub fn reach_owned<'a, S: Sectors>(
 ) -> Result<Reached<'a>, Refusal>
     requires ready { IsReadyFor caller.now (S.state s.old) }
     ensures refused { IfErr result (λ e. (st : State)
-        → IsStateOf caller.now.geometry (S.state s.old).sectors caller.now.procs.now st
+        → IsStateOf caller.now.geometry (S.state s.old).sectors (tables_of caller.now) st
         → RefusesOwned (S.state s.old).disk (S.state s.new).disk st (who_of caller.now.by) checks links form path.now e) }
     ensures owned { IfOk result (λ r. HasOwned caller.now.geometry (S.state s.new)
-        caller.now.procs.now (who_of caller.now.by) checks links form path.now r.process r.found r.ino r.inode) }
+        (tables_of caller.now) (who_of caller.now.by) checks links form path.now r.process r.found r.ino r.inode) }
     ensures same { IsUnchanged (S.state s.old) (S.state s.new) }
 {
     let reached = reach(s, caller, checks, path, links, form)?;
@@ -453,10 +460,10 @@ pub fn walk_both<'a, S: Sectors>(
 ) -> Result<WalkedBoth<'a>, Refusal>
     requires ready { IsReadyFor caller.now (S.state s.old) }
     ensures refused { IfErr result (λ e. (st : State)
-        → IsStateOf caller.now.geometry (S.state s.old).sectors caller.now.procs.now st
+        → IsStateOf caller.now.geometry (S.state s.old).sectors (tables_of caller.now) st
         → RefusesBoth (S.state s.old).disk (S.state s.new).disk st (who_of caller.now.by) links old.now new.now e) }
     ensures walked { IfOk result (λ w. HasWalkedBoth caller.now.geometry (S.state s.new)
-        caller.now.procs.now (who_of caller.now.by) links old.now new.now w.process w.first w.second) }
+        (tables_of caller.now) (who_of caller.now.by) links old.now new.now w.process w.first w.second) }
     ensures same { IsUnchanged (S.state s.old) (S.state s.new) }
 {
     let process = caller.process()?;
@@ -479,42 +486,89 @@ fn is_open_for(descriptor: Descriptor, purpose: OpenFor) -> bool
     }
 }
 
-/// What the process of this number has open at a descriptor, where it is open for this. At `Err` it is the refusal of whichever
-/// call acts on it. EBADF: it isn't.
+// What is open there.
+fn open_at(procs: &Procs, openings: &Openings, place: OpenAt) -> Result<Descriptor, Errno>
+    ensures { result ≡ opened_in (both procs.now openings.now.0) place }
+{
+    match place {
+        OpenAt::Descriptor { pid, fd } => procs.get(pid, fd),
+        OpenAt::Handle { handle, offset } => openings.get(handle, offset),
+    }
+}
+
+/// What is open there, where it is open for this. At `Err` it is the refusal of whatever acts on it. EBADF: it isn't.
 pub fn find_open(
     procs: &Procs,
-    pid: usize,
-    fd: usize,
+    openings: &Openings,
+    place: OpenAt,
     purpose: OpenFor,
 ) -> Result<Descriptor, Refusal>
-    ensures refused { IfErr result (λ e. (st : State) → st.processes ≡ procs.now → IsNotOpen st pid fd purpose e) }
-    ensures is_open { IfOk result (λ d. IsOpenFor procs.now pid fd purpose d) }
+    ensures refused { IfErr result (λ e. (st : State) → tables_in st ≡ both procs.now openings.now.0 → IsNotOpen st place purpose e) }
+    ensures is_open { IfOk result (λ d. IsOpenFor (both procs.now openings.now.0) place purpose d) }
     ensures table { IsTable procs.now }
 {
-    let descriptor = procs.get(pid, fd)?;
+    procs.tell_table();
+    let descriptor = open_at(procs, openings, place)?;
     if !is_open_for(descriptor, purpose) {
         return Err(Refusal::Failed(Errno::EBADF));
     }
     Ok(descriptor)
 }
 
-/// What a process has open at a descriptor, as by `find_open`, with its inode. EIO: the disk has failed.
+/// What is open there, as by `find_open`, with its inode. EIO: the disk has failed.
 pub fn reach_open<S: Sectors>(
     s: &mut S,
-    caller: &Caller,
-    pid: usize,
-    fd: usize,
+    geometry: Geometry,
+    procs: &Procs,
+    openings: &Openings,
+    place: OpenAt,
     purpose: OpenFor,
 ) -> Result<(Descriptor, Inode), Refusal>
-    requires ready { IsReadyFor caller.now (S.state s.old) }
+    requires ready { MayPerform geometry (S.state s.old) (both procs.now openings.now.0) }
     ensures refused { IfErr result (λ e. (st : State)
-        → IsStateOf caller.now.geometry (S.state s.old).sectors caller.now.procs.now st
-        → RefusesOpen (S.state s.old).disk (S.state s.new).disk st pid fd purpose e) }
-    ensures opened { IfOk result (λ r. HasOpened caller.now.geometry (S.state s.new)
-        caller.now.procs.now pid fd purpose r.0 r.1) }
+        → IsStateOf geometry (S.state s.old).sectors (both procs.now openings.now.0) st
+        → RefusesOpen (S.state s.old).disk (S.state s.new).disk st place purpose e) }
+    ensures opened { IfOk result (λ r. HasOpened geometry (S.state s.new) (both procs.now openings.now.0) place purpose r.0 r.1) }
     ensures same { IsUnchanged (S.state s.old) (S.state s.new) }
 {
-    let descriptor = find_open(caller.procs, pid, fd, purpose)?;
-    let inode = load_inode(s, caller.geometry, descriptor.ino)?;
+    let descriptor = find_open(procs, openings, place, purpose)?;
+    let inode = load_inode(s, geometry, descriptor.ino)?;
     Ok((descriptor, inode))
+}
+
+/// Whether what is open there stays open by another descriptor or handle, once it is closed.
+pub fn stays_open(procs: &Procs, openings: &Openings, place: OpenAt, ino: u32) -> bool
+    requires { IsOk (opened_in (both procs.now openings.now.0) place) }
+    ensures { result ≡ is_open (users_of (closed_in (both procs.now openings.now.0) place)) ino }
+{
+    match place {
+        OpenAt::Descriptor { pid, fd } => {
+            openings.is_open(ino) || procs.is_open_besides(pid, fd, ino)
+        }
+        OpenAt::Handle { handle, .. } => {
+            openings.is_open_besides(handle, ino) || procs.is_open(ino)
+        }
+    }
+}
+
+/// Closes what is open there.
+pub fn close_at(procs: &mut Procs, openings: &mut Openings, place: OpenAt)
+    requires { IsOk (opened_in (both procs.old openings.old.0) place) }
+    ensures { both procs.new openings.new.0 ≡ closed_in (both procs.old openings.old.0) place }
+{
+    match place {
+        OpenAt::Descriptor { pid, fd } => procs.close(pid, fd),
+        OpenAt::Handle { handle, .. } => openings.close(handle),
+    }
+}
+
+/// Moves the offset of what is open there. That of a handle isn't kept.
+pub fn seek_at(procs: &mut Procs, openings: &Openings, place: OpenAt, to: u64)
+    requires { IsOk (opened_in (both procs.old openings.now.0) place) }
+    ensures { both procs.new openings.now.0 ≡ moved_in (both procs.old openings.now.0) place to }
+{
+    let _openings = openings;
+    if let OpenAt::Descriptor { pid, fd } = place {
+        procs.seek(pid, fd, to);
+    }
 }

@@ -2,6 +2,7 @@
 --     given_super        the superblock stays
 --     acl_rest, holder_refused, space_refused        it is refused
 --     acl_changed, acl_given        it is given
+use Rattle.call_parts.specs.BothTables.{Tables}
 use Rattle.std.specs.Prelude.{false}
 use Rattle.call_parts.specs.Callers.{Who}
 use Rattle.std.specs.Prelude.{◌≡◌, ℕ, Bool, true, false, not, ◌&&◌, List, [], ◌∷◌, Option, None, Some, IsFalse, Ok, Err}
@@ -24,7 +25,7 @@ use Rattle.fs_model.specs.declared.walk.Found.{Found}
 use Rattle.fs_model.specs.AttributeCalls.{is_default, set_acl_arguments, set_acl_demands, set_acl_effect, with_set_acl}
 use Rattle.fs_model.specs.Demands.{Demand, refuse, first_of}
 use Rattle.fs_model.specs.Nodes.{Node, is_directory, is_link}
-use Rattle.fs_model.specs.Processes.{Process, ProcessTable}
+use Rattle.fs_model.specs.Processes.{Process}
 use Rattle.fs_model.specs.Rules.{is_directory_kind}
 use Rattle.fs_model.specs.Scenes.{body_found, must_be_there, own_at_end}
 use Rattle.fs_model.specs.States.{State}
@@ -101,8 +102,8 @@ space_later p which acl {old} {mid} new e same is =
     kept_back (λ (m : SectorMap). IsAnswered old.disk new (refused_or {A = Unit {0}} (first_of (acl_space_asked which acl (free_sectors p m))) (Ok tt)) (Err e)) same
     (answered_later {A = Unit {0}} new same is)
 
-module _ {p : Geometry} {map : SectorMap} {processes : ProcessTable} {s : State} {who : Who} {q : Process} {path : List ℕ} {f : Found} {n : ℕ} {v : Inode}
-    (at : IsStateOf p map processes s) (has : HasFound s who q false Follow path f) (i : IsInodeFound p map f n v)
+module _ {p : Geometry} {map : SectorMap} {tables : Tables} {s : State} {who : Who} {q : Process} {path : List ℕ} {f : Found} {n : ℕ} {v : Inode}
+    (at : IsStateOf p map tables s) (has : HasFound s who q false Follow path f) (i : IsInodeFound p map f n v)
     (met : own_asked q.cred v.uid f.step ≡ None) (which : AclType) (acl : Option AccessList) where
   abbrev first_two : List Demand
   first_two = must_be_there f ∷ own_at_end (scene_at s q f) ∷ []
@@ -136,7 +137,7 @@ module _ {p : Geometry} {map : SectorMap} {processes : ProcessTable} {s : State}
 
     -- the list is given
     acl_changed : (new : SectorMap) → first_of space ≡ None → first_of (set_acl_arguments which acl) ≡ None → SavesOf which p n v.mode acl map new
-        → IsChange p new processes s q (set_acl_demands which acl (scene_at s q f)) (set_acl_effect which acl (scene_at s q f)) Done ((n, Changed) ∷ [])
+        → IsChange p new tables s q (set_acl_demands which acl (scene_at s q f)) (set_acl_effect which acl (scene_at s q f)) Done ((n, Changed) ∷ [])
     acl_changed new enough given saves =
         let a = followed_access n at has i.some in
         let kind = sym (held_kind (state_tree at) n a.node a.at) ∙ ap (λ (w : Inode). is_directory_kind w.kind) (sym i.inode) in
@@ -152,11 +153,11 @@ module _ {p : Geometry} {map : SectorMap} {processes : ProcessTable} {s : State}
         i.number (node_is s q f n i.number a) refl
 
 -- so it is after what was asked
-pub acl_given : {p : Geometry} {mid last : TxnState} {processes : ProcessTable} {s : State} {who : Who} {q : Process} {path : List ℕ} {f : Found} {n : ℕ} {v : Inode}
-    → IsStateOf p mid.sectors processes s → HasFound s who q false Follow path f → IsInodeFound p mid.sectors f n v → own_asked q.cred v.uid f.step ≡ None → (which : AclType) (acl : Option AccessList)
+pub acl_given : {p : Geometry} {mid last : TxnState} {tables : Tables} {s : State} {who : Who} {q : Process} {path : List ℕ} {f : Found} {n : ℕ} {v : Inode}
+    → IsStateOf p mid.sectors tables s → HasFound s who q false Follow path f → IsInodeFound p mid.sectors f n v → own_asked q.cred v.uid f.step ≡ None → (which : AclType) (acl : Option AccessList)
     → checked (first_of (set_acl_arguments which acl)) ≡ Ok tt → checked (holder_asked which v.kind) ≡ Ok tt → IsUnchanged mid last
     → checked (first_of (acl_space_asked which acl (free_sectors p mid.sectors))) ≡ Ok tt → {new : SectorMap} → SavesOf which p n v.mode acl last.sectors new
-    → IsChange p new processes s q (set_acl_demands which acl (scene_at s q f)) (set_acl_effect which acl (scene_at s q f)) Done ((n, Changed) ∷ [])
+    → IsChange p new tables s q (set_acl_demands which acl (scene_at s q f)) (set_acl_effect which acl (scene_at s q f)) Done ((n, Changed) ∷ [])
 acl_given {p} {mid} {n = n} {v = v} at has i met which acl given holder same enough {new} saves =
     acl_changed at has i met which acl (met_ok (holder_asked which v.kind) tt tt holder).0 new (met_ok (first_of (acl_space_asked which acl (free_sectors p mid.sectors))) tt tt enough).0
     (met_ok (first_of (set_acl_arguments which acl)) tt tt given).0 (kept_back (λ (m : SectorMap). SavesOf which p n v.mode acl m new) same saves)

@@ -1,4 +1,5 @@
 -- Another mode of what was found.
+use Rattle.call_parts.specs.BothTables.{Tables}
 use Rattle.std.specs.Prelude.{false}
 use Rattle.call_parts.specs.Callers.{Who}
 use Rattle.std.specs.Prelude.{◌≡◌, ◌≢◌, ℕ, ◌+◌, ◌/◌, ◌%◌, ◌==◌, ◌<◌, ◌≤◌, nat_le, nat_eq, zero, suc, Bool, true, false, not, ◌&&◌, ◌||◌, cond, if◌then◌else◌, List, [], ◌∷◌, length, Option, None, Some, is_some}
@@ -30,7 +31,7 @@ use Rattle.fs_model.specs.AttributeCalls.{chmod_demands, chmod_effect, with_mode
 use Rattle.fs_model.specs.Births.{the_node}
 use Rattle.fs_model.specs.Kinds.{kind_of_type}
 use Rattle.fs_model.specs.Nodes.{Body, File, Dir, Link, acl_in, accessed_body, type_of}
-use Rattle.fs_model.specs.Processes.{Process, ProcessTable}
+use Rattle.fs_model.specs.Processes.{Process}
 use Rattle.fs_model.specs.States.{State}
 use Rattle.fs_model.proofs.StepsBodies.{mode_may_replace}
 use Rattle.bit_alloc.specs.declared.bitmap.TakeFault.{TakeFault}
@@ -157,13 +158,13 @@ acl_told owner group (Dir a d) x e =
     let is : record { kind = nodes.Directory; owner = owner; group = group; acl = a } ≡ x = cc in ap (λ (n : AccessNode). Some n.acl) is
 acl_told owner group (Link target) x e = absurd (cc)
 
-module _ {p : Geometry} {map : SectorMap} {processes : ProcessTable} {s : State} {who : Who} {q : Process} {path : List ℕ} {f : Found} {n : ℕ} {v : Inode}
-    (at : IsStateOf p map processes s) (has : HasFound s who q false Follow path f) (i : IsInodeFound p map f n v) where
+module _ {p : Geometry} {map : SectorMap} {tables : Tables} {s : State} {who : Who} {q : Process} {path : List ℕ} {f : Found} {n : ℕ} {v : Inode}
+    (at : IsStateOf p map tables s) (has : HasFound s who q false Follow path f) (i : IsInodeFound p map f n v) where
   -- the mode is given
   pub mode_changed : (cred : Credential) (mode : ℕ) (new : SectorMap) → cred ≡ q.cred
       → own_asked q.cred v.uid f.step ≡ None
       → ((a : AccessList) → HasAcl map v a → SavesAcl p n (special_mode cred v.kind v.gid mode) (with_mode_bits a mode) map new)
-      → IsChange p new processes s q (chmod_demands (scene_at s q f)) (chmod_effect mode (scene_at s q f)) Done ((n, Changed) ∷ [])
+      → IsChange p new tables s q (chmod_demands (scene_at s q f)) (chmod_effect mode (scene_at s q f)) Done ((n, Changed) ∷ [])
   mode_changed cred mode new same met gives =
       let a = followed_access n at has i.some in
       let u = inode_at p map n in

@@ -31,6 +31,7 @@ use Rattle.fs_model.specs.Demands.{Demand, refuse, first_of, perms, decided, per
 use Rattle.fs_model.specs.Nodes.{Node, Body, File, Dir, Link, is_directory, is_link, bytes_in, with_bytes}
 use Rattle.fs_model.specs.OpenCall.{open_demands, open_new_demands, open_change}
 use Rattle.fs_model.specs.Processes.{Process, ProcessTable, is_open}
+use Rattle.call_parts.specs.BothTables.{tables_in, users_of}
 use Rattle.fs_model.specs.Rules.{is_directory_kind}
 use Rattle.fs_model.specs.Stands.{HoldsAll, placed}
 use Rattle.fs_model.specs.States.{State}
@@ -208,7 +209,7 @@ module _ {p : Geometry} {map : SectorMap} {flags : Flags} {q : Process} {f : Fou
 
     prepared_by : (mode : ℕ) (new : SectorMap) (touching : List (ℕ × Touch)) (change : Change) → open_change flags mode (scene_at s q f) n ≡ change → HasNewNumber s change
         → touches_of s.tree change ≡ touching
-        → ((now : ProcessTable) → ((k : ℕ) → IsTrue (is_open s.processes k) → IsTrue (is_open now k)) → HoldsAll p new (placed (swept (changed s.tree change) now)))
+        → ((now : ProcessTable) → ((k : ℕ) → IsTrue (is_open (users_of (tables_in s)) k) → IsTrue (is_open now k)) → HoldsAll p new (placed (swept (changed s.tree change) now)))
         → Prepares p new flags mode q f s n touching
     prepared_by mode new touching change change_to fresh times holds = record {
       met = old_met;
@@ -232,7 +233,7 @@ module _ {p : Geometry} {map : SectorMap} {flags : Flags} {q : Process} {f : Fou
       → (mode : ℕ) (old new : TxnState) → old.sectors ≡ map → flags.trunc && flags.write ≡ true → ChangesBytes p n (λ held. resized held 0) old.sectors new.sectors
       → Prepares p new.sectors flags mode q f s n ((n, Modified) ∷ [])
   old_emptied cred v same is mode old new old_is cuts c =
-      let at = subst (λ (m : SectorMap). IsStateOf p m i.processes s) (sym old_is) i.is_state in
+      let at = subst (λ (m : SectorMap). IsStateOf p m i.tables s) (sym old_is) i.is_state in
       let x = stands s.tree n old_there in
       let here = the_node_is s.tree n x.node x.at in
       let body = (at.is_state.tree.each n x.node x.at).body in

@@ -4,6 +4,7 @@
 --     asked_of_it, few_names, can_make        a file may be made
 --     finds_kept, asked_later        reads leave what was found, and what was asked
 --     made_prepares, file_prepares        it was made
+use Rattle.call_parts.proofs.Starts.{stands_fits}
 use Rattle.std.specs.Prelude.{◌≡◌, ℕ, ◌-◌, ◌/◌, ◌%◌, ◌<◌, ◌≤◌, ◌==◌, nat_lt, nat_le, if◌then◌else◌, Bool, not, ◌&&◌, ◌||◌, List, [], ◌∷◌, length, Option, None, unwrap_or, is_some, Ok, Err}
 use Rattle.std.proofs.Common.{sym, ap, subst, ◌∙◌, inl}
 use Rattle.fs_cred.specs.declared.errno.Errno.TheVariants.{ENOENT, ENOSPC}
@@ -149,7 +150,7 @@ module _ {p : Geometry} {map : SectorMap} {flags : Flags} {q : Process} {f : Fou
     newborn : IsNewborn s.room s.tree file
     newborn =
         let is = i.is_state.is_state in
-        let here = (is.processes i.is_state.up).each_process i.pid q i.found.there in
+        let here = stands_fits s i.who q is i.is_state.up i.found.there in
         let fits = is.tree.each f.dir_ino node new_name.stands in
         file_is_born s.room s.tree q.cred here.cred node fits.group q.umask mode fits.body
 

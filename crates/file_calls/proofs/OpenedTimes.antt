@@ -15,6 +15,7 @@ use Rattle.fs_model.specs.declared.walk.Found.{Found}
 use Rattle.fs_model.specs.Demands.{first_of}
 use Rattle.fs_model.specs.OpenCall.{open_demands, open_change}
 use Rattle.fs_model.specs.Processes.{Process, ProcessTable, is_open}
+use Rattle.call_parts.specs.BothTables.{tables_in, users_of}
 use Rattle.fs_model.specs.Stands.{HoldsAll, placed}
 use Rattle.fs_model.specs.States.{State}
 use Rattle.fs_model.specs.Steps.{HasNewNumber}
@@ -29,7 +30,7 @@ pub record Prepares (p : Geometry) (map : SectorMap) (flags : Flags) (mode : ℕ
   pub number : unwrap_or f.ino n ≡ n
   pub new_number : HasNewNumber s (open_change flags mode (scene_at s q f) n)
   pub times : touches_of s.tree (open_change flags mode (scene_at s q f) n) ≡ touching
-  pub holds : (now : ProcessTable) → ((k : ℕ) → IsTrue (is_open s.processes k) → IsTrue (is_open now k))
+  pub holds : (now : ProcessTable) → ((k : ℕ) → IsTrue (is_open (users_of (tables_in s)) k) → IsTrue (is_open now k))
       → HoldsAll p map (placed (swept (changed s.tree (open_change flags mode (scene_at s q f) n)) now))
 
 pub reached : {p : Geometry} {map : SectorMap} {flags : Flags} {mode : ℕ} {q : Process} {f : Found} {s : State} {n time : ℕ} {touching : List (ℕ × Touch)} {old new : TxnState}
@@ -45,7 +46,7 @@ pub prepared_may_touch : {p : Geometry} {flags : Flags} {mode : ℕ} {q : Proces
     → SameStore old new → Prepares p new.sectors flags mode q f s n touching → AreBelow p.inodes touching → (k : ℕ) → TakesSpare p k old new → length touching + k ≤ 47
     → MayMoveTimes p touching new
 prepared_may_touch {p} {flags} {mode} {q} {f} {s} {n} old new sound spare store x below k taken few = record {
-  sound = sound_again p old new (placed (swept (changed s.tree (open_change flags mode (scene_at s q f) n)) s.processes)) sound store (x.holds s.processes (λ k was. was));
+  sound = sound_again p old new (placed (swept (changed s.tree (open_change flags mode (scene_at s q f) n)) (users_of (tables_in s)))) sound store (x.holds (users_of (tables_in s)) (λ k was. was));
   below = below;
   spare = omega (arith, spare, taken, few);
 }

@@ -20,6 +20,7 @@ use Rattle.fs_model.specs.declared.touch.Touch.TheVariants.{Modified}
 use Rattle.fs_model.specs.TreeChanges.{Rewrite, changed, swept}
 use Rattle.fs_model.specs.Nodes.{Node, bytes_in, with_bytes}
 use Rattle.fs_model.specs.Processes.{ProcessTable, is_open}
+use Rattle.call_parts.specs.BothTables.{Tables, tables_in, users_of}
 use Rattle.fs_model.specs.Stands.{HoldsAll, placed}
 use Rattle.fs_model.specs.States.{State}
 use Rattle.fs_model.specs.Trees.{node_at, names_of, parent}
@@ -33,12 +34,12 @@ use Rattle.path_walk.proofs.HeldNodes.{held_node, bytes_say}
 use Rattle.call_parts.specs.Altering.{AltersDisk}
 use Rattle.call_parts.specs.ByteChanges.{ChangesBytes}
 
-pub bytes_rewritten : {p : Geometry} {old new : SectorMap} {processes : ProcessTable} {s : State} (at : IsStateOf p old processes s) (now : ProcessTable)
-    → ((n : ℕ) → IsTrue (is_open s.processes n) → IsTrue (is_open now n)) → (n : ℕ) (node : Node) → node_at s.tree n ≡ Some node
+pub bytes_rewritten : {p : Geometry} {old new : SectorMap} {tables : Tables} {s : State} (at : IsStateOf p old tables s) (now : ProcessTable)
+    → ((n : ℕ) → IsTrue (is_open (users_of (tables_in s)) n) → IsTrue (is_open now n)) → (n : ℕ) (node : Node) → node_at s.tree n ≡ Some node
     → (inode_at p old n).kind ≡ kinds.File → (f : List ℕ → List ℕ) → ChangesBytes p n f old new
     → length (f (bytes_in node.body)) ≤ s.room.file_limit → IsBytes (f (bytes_in node.body))
     → HoldsAll p new (placed (swept (changed s.tree (Rewrite Modified n (record node { body = with_bytes (f (bytes_in node.body)) node.body }))) now))
-bytes_rewritten {p} {old} {new} {processes} {s} at now still n node there file f c few are =
+bytes_rewritten {p} {old} {new} {tables} {s} at now still n node there file f c few are =
     let v = inode_at p old n in
     let w = inode_at p new n in
     let held = held_node (state_tree at) n node there in

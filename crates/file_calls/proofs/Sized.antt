@@ -1,4 +1,5 @@
 -- Another size of a file that was found.
+use Rattle.call_parts.specs.BothTables.{Tables}
 use Rattle.std.specs.Prelude.{false}
 use Rattle.call_parts.specs.Callers.{Who}
 use Rattle.std.specs.Prelude.{◌≡◌, ◌≤◌, ℕ, nat_lt, Bool, true, false, List, [], ◌∷◌, None, Some, Ok, Err}
@@ -31,7 +32,7 @@ use Rattle.fs_model.specs.AttributeCalls.{truncate_demands, truncate_effect}
 use Rattle.fs_model.specs.Demands.{Demand, refuse, first_of, decided, perms}
 use Rattle.fs_model.specs.DescriptorCalls.{resized_node}
 use Rattle.fs_model.specs.Nodes.{is_directory, bytes_in}
-use Rattle.fs_model.specs.Processes.{Process, ProcessTable}
+use Rattle.fs_model.specs.Processes.{Process}
 use Rattle.fs_model.specs.Rules.{is_directory_kind}
 use Rattle.fs_model.specs.Scenes.{found_ino, must_be_there, body_found, permission_at_end}
 use Rattle.fs_model.specs.States.{State}
@@ -70,8 +71,8 @@ truncate_rest size s q f =
     ∷ refuse EFBIG (nat_lt s.room.file_limit size)
     ∷ []
 
-module _ {p : Geometry} {map : SectorMap} {processes : ProcessTable} {s : State} {who : Who} {q : Process} {path : List ℕ} {f : Found} {n : ℕ} {v : Inode}
-    (at : IsStateOf p map processes s) (has : HasFound s who q false Follow path f) (some : f.ino ≡ Some n) (number_is : found_ino f ≡ n) (inode : v ≡ inode_at p map n)
+module _ {p : Geometry} {map : SectorMap} {tables : Tables} {s : State} {who : Who} {q : Process} {path : List ℕ} {f : Found} {n : ℕ} {v : Inode}
+    (at : IsStateOf p map tables s) (has : HasFound s who q false Follow path f) (some : f.ino ≡ Some n) (number_is : found_ino f ≡ n) (inode : v ≡ inode_at p map n)
     (size : ℕ) where
   abbrev last_asked : List Demand
   last_asked = refuse EFBIG (nat_lt (max_file_size p.version) size) ∷ []
@@ -132,14 +133,14 @@ module _ {p : Geometry} {map : SectorMap} {processes : ProcessTable} {s : State}
             (both_met (permission_at_end (scene_at s q f) f 1 (perms false true false)) last_asked granted
             (or_else-none (refuse EFBIG (nat_lt (max_file_size p.version) size)) ∙ fits)))
 
-module _ {p : Geometry} {old : SectorMap} {processes : ProcessTable} {s : State} {who : Who} {q : Process} {path : List ℕ} {f : Found} {n : ℕ} {v : Inode}
-    (at : IsStateOf p old processes s) (has : HasFound s who q false Follow path f) (some : f.ino ≡ Some n) (number_is : found_ino f ≡ n) (inode : v ≡ inode_at p old n)
+module _ {p : Geometry} {old : SectorMap} {tables : Tables} {s : State} {who : Who} {q : Process} {path : List ℕ} {f : Found} {n : ℕ} {v : Inode}
+    (at : IsStateOf p old tables s) (has : HasFound s who q false Follow path f) (some : f.ino ≡ Some n) (number_is : found_ino f ≡ n) (inode : v ≡ inode_at p old n)
     (size : ℕ) where
   -- the file has that size
   size_changed : (new : SectorMap) → must_be_there f ≡ None → refuse EISDIR (is_directory_kind v.kind) ≡ None
       → permission_at_end (scene_at s q f) f 1 (perms false true false) ≡ None → refuse EFBIG (nat_lt (max_file_size p.version) size) ≡ None
       → size ≤ max_file_size p.version → v.kind ≡ kinds.File → ChangesBytes p n (λ held. resized held size) old new
-      → IsChange p new processes s q (truncate_demands size (scene_at s q f)) (truncate_effect size (scene_at s q f)) Done ((n, Modified) ∷ [])
+      → IsChange p new tables s q (truncate_demands size (scene_at s q f)) (truncate_effect size (scene_at s q f)) Done ((n, Modified) ∷ [])
   size_changed new there file granted fits few kind c =
       let a = followed_access n at has some in
       let is_file = sym (ap (λ (w : Inode). w.kind) inode) ∙ kind in
@@ -158,13 +159,13 @@ module _ {p : Geometry} {old : SectorMap} {processes : ProcessTable} {s : State}
       (node_is s q f n number_is a) refl
 
 -- so it has after what was asked
-pub resized_found : {p : Geometry} {mid last : TxnState} {processes : ProcessTable} {s : State} {who : Who} {q : Process} {path : List ℕ} {f : Found} {n : ℕ} {v : Inode}
-    → IsStateOf p mid.sectors processes s → HasFound s who q false Follow path f → IsInodeFound p mid.sectors f n v → checked (refuse EISDIR (is_directory_kind v.kind)) ≡ Ok tt
+pub resized_found : {p : Geometry} {mid last : TxnState} {tables : Tables} {s : State} {who : Who} {q : Process} {path : List ℕ} {f : Found} {n : ℕ} {v : Inode}
+    → IsStateOf p mid.sectors tables s → HasFound s who q false Follow path f → IsInodeFound p mid.sectors f n v → checked (refuse EISDIR (is_directory_kind v.kind)) ≡ Ok tt
     → (cred : Credential) → cred ≡ q.cred → {rule : Rule}
     → ((node : AccessNode) → HasAccess mid.sectors v node
     → refused_or {A = Rule} (decided 1 f.step (Perm (perms false true false)) (verdict cred node (perms false true false))) (Ok (verdict cred node (perms false true false)).rule) ≡ Ok rule)
     → IsUnchanged mid last → (size : ℕ) → checked (refuse EFBIG (nat_lt (max_file_size p.version) size)) ≡ Ok tt → {new : SectorMap} → ChangesBytes p n (λ held. resized held size) last.sectors new
-    → IsChange p new processes s q (truncate_demands size (scene_at s q f)) (truncate_effect size (scene_at s q f)) Done ((n, Modified) ∷ [])
+    → IsChange p new tables s q (truncate_demands size (scene_at s q f)) (truncate_effect size (scene_at s q f)) Done ((n, Modified) ∷ [])
 resized_found {p} {mid} {n = n} {v = v} at has i no_directory cred who {rule} granted same size fits {new} change =
     let held = access_held {mid = mid} {new = mid} at has i unchanged_nothing in
     let file = (met_ok (refuse EISDIR (is_directory_kind v.kind)) tt tt no_directory).0 in

@@ -1,3 +1,5 @@
 pub mod Exiting
 pub mod Settling
 pub mod Openings
+pub mod Places
+pub mod Opens

@@ -2,11 +2,12 @@
 --     open_asked        asked of the call and of its path
 --     open_kind_asked        asked of the kind of an inode
 --     found_asked        asked of what stands at a number
---     FindsIn        a state in which a process has found this
+--     FindsIn        a state in which a caller has found this
 --     IsRefusedOpen        what it asks of that refuses it
 --     Reaches        nothing refuses it then, and the map holds the tree after it, in which times have moved
 --     MayOpen, Opens        the whole, once it is found: what it begins with and what it leaves
-use Rattle.call_parts.specs.Callers.{ByProcess}
+use Rattle.call_parts.specs.BothTables.{Tables, tables_in, users_of}
+use Rattle.call_parts.specs.Callers.{Who, path_asked}
 use Rattle.std.specs.Prelude.{◌≡◌, ℕ, false, not, ◌&&◌, ◌||◌, List, [], ◌∷◌, ◌++◌, None, unwrap_or, IsTrue, Result, Ok, Err, OnOk, MatchResult}
 use Rattle.sector_disk.specs.Disk.{DiskState}
 use Rattle.fs_cred.specs.declared.refusal.Refusal.{Refusal}
@@ -22,7 +23,7 @@ use Rattle.fs_model.specs.TreeChanges.{changed, touches, touched, swept}
 use Rattle.fs_model.specs.Demands.{Demand, refuse, first_of, perms, permission_on}
 use Rattle.fs_model.specs.Nodes.{is_directory, is_link}
 use Rattle.fs_model.specs.OpenCall.{open_arguments, open_form, open_demands, open_change}
-use Rattle.fs_model.specs.Parts.{path_checks, ends_with_slash}
+use Rattle.fs_model.specs.Parts.{ends_with_slash}
 use Rattle.fs_model.specs.Processes.{Process, ProcessTable, is_open}
 use Rattle.fs_model.specs.Rules.{is_directory_kind}
 use Rattle.fs_model.specs.Stands.{HoldsAll, placed}
@@ -40,8 +41,8 @@ use Rattle.call_parts.specs.Performing.{IsStateOf}
 use Rattle.file_calls.specs.declared.opening.Opening.{Opening}
 
 -- all that is asked early, but for an unused descriptor
-abbrev pub open_asked : Flags → ℕ → List ℕ → List Demand
-open_asked f mode path = (open_arguments f mode ++ path_checks path) ++ (refuse EISDIR (f.create && ends_with_slash path) ∷ [])
+abbrev pub open_asked : Who → Flags → ℕ → List ℕ → List Demand
+open_asked who f mode path = (open_arguments f mode ++ path_asked who path) ++ (refuse EISDIR (f.create && ends_with_slash path) ∷ [])
 
 abbrev pub open_kind_asked : Flags → Kind → List Demand
 open_kind_asked f kind =
@@ -61,12 +62,12 @@ found_asked f cred t n step =
     ∷ []
 
 pub record FindsIn (p : Geometry) (map : SectorMap) (flags : Flags) (q : Process) (f : Found) (s : State) : Type 0 where
-  pub processes : ProcessTable
-  pub pid : ℕ
+  pub tables : Tables
+  pub who : Who
   pub path : List ℕ
   pub bytes : IsBytes path
-  pub is_state : IsStateOf p map processes s
-  pub found : HasFound s (ByProcess pid) q false (open_form flags) path f
+  pub is_state : IsStateOf p map tables s
+  pub found : HasFound s who q false (open_form flags) path f
 
 -- the demands of an open on what was found refuse it, or what may stand in their place does
 abbrev pub IsRefusedOpen : DiskState → DiskState → Flags → Process → Found → State → Refusal → Type 0
@@ -77,7 +78,7 @@ pub record Reaches (p : Geometry) (time : ℕ) (map : SectorMap) (flags : Flags)
   pub met : first_of (open_demands flags (scene_at s q f)) ≡ None
   pub number : unwrap_or f.ino n ≡ n
   pub new_number : HasNewNumber s (open_change flags mode (scene_at s q f) n)
-  pub holds : (now : ProcessTable) → ((k : ℕ) → IsTrue (is_open s.processes k) → IsTrue (is_open now k))
+  pub holds : (now : ProcessTable) → ((k : ℕ) → IsTrue (is_open (users_of (tables_in s)) k) → IsTrue (is_open now k))
       → HoldsAll p map (placed (touched time (touches s.room s.tree (open_change flags mode (scene_at s q f) n))
       (swept (changed s.tree (open_change flags mode (scene_at s q f) n)) now)))
 

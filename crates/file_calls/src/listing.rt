@@ -3,18 +3,19 @@
 ghost use Rattle.std.specs.Prelude.{◌≡◌, [], ◌∷◌, ◌++◌, map, codes, OnOk, IfOk, IfErr};
 ghost use Rattle.dir_core.specs.Slots.{name_entry};
 ghost use Rattle.fs_layout.specs.Directories.{HasNames};
-ghost use Rattle.fs_model.specs.declared.call.Call.TheVariants.{Readdir};
 ghost use Rattle.fs_model.specs.Listings.{pairs};
 ghost use Rattle.sector_txn.specs.Sectors.{IsUnchanged};
-ghost use Rattle.call_parts.specs.Performing.{IsReadyFor, PerformsBy};
-ghost use Rattle.call_parts.specs.Callers.{ByProcess};
+ghost use Rattle.call_parts.specs.BothTables.{both};
+ghost use Rattle.call_parts.specs.Performing.{MayPerform, Performs};
+ghost use Rattle.file_calls.specs.Places.{offset_at, list_through};
 ghost use Rattle.call_parts.specs.Telling.{ShowsInode, ReadsInode};
 
-use call_parts::{CallResult, Caller, OpenFor, check_is_directory, reach_open};
+use call_parts::{CallResult, OpenAt, OpenFor, Site, check_is_directory, reach_open};
 use dir_core::{DirFault, list};
 use fs_cred::{Errno, Refusal};
-use fs_layout::{Inode, Slot};
+use fs_layout::{Geometry, Inode, Slot};
 use fs_model::{Listing, Name, Named, Reply};
+use open_files::{Openings, Procs};
 use sector_txn::Sectors;
 use std::alloc::Global;
 
@@ -50,33 +51,43 @@ fn list_slots(alloc: Global, ino: u32, parent: u32, slots: &[Slot]) -> Result<Li
 
 // The listing of directory `ino`, whose inode this is.
 fn list_names<S: Sectors>(
+    alloc: Global,
     s: &mut S,
-    caller: &Caller,
+    geometry: Geometry,
     ino: u32,
     inode: &Inode,
 ) -> Result<Listing, Refusal>
-    requires { ShowsInode caller.now.geometry (S.state s.old) inode.now (HasNames caller.now.geometry.version) }
-    ensures { ReadsInode inode.now (HasNames caller.now.geometry.version)
+    requires { ShowsInode geometry (S.state s.old) inode.now (HasNames geometry.version) }
+    ensures { ReadsInode inode.now (HasNames geometry.version)
         (λ names. (codes ".", ino) ∷ (codes "..", inode.now.parent) ∷ names) (S.state s.old) (S.state s.new) result }
 {
-    let slots = match list(caller.alloc, s, caller.geometry, inode) {
+    let slots = match list(alloc, s, geometry, inode) {
         Ok(slots) => slots,
         Err(DirFault::OutOfMemory) => return Err(Refusal::Failed(Errno::ENOMEM)),
         Err(_) => return Err(Refusal::Failed(Errno::EIO)),
     };
-    list_slots(caller.alloc, ino, inode.parent, &slots)
+    list_slots(alloc, ino, inode.parent, &slots)
 }
 
-/// Lists a directory: `.`, `..`, and its names in bytewise order.
+/// Lists the directory of a descriptor or a handle: `.`, `..`, and its names in bytewise order.
 ///
 /// EBADF: it isn't open for reading. ENOTDIR: it is no directory.
-pub fn readdir<S: Sectors>(s: &mut S, caller: &Caller, pid: usize, fd: usize) -> CallResult
-    requires ready { IsReadyFor caller.now (S.state s.old) }
-    ensures performs { PerformsBy caller.now (ByProcess pid) (Readdir fd) (S.state s.old) (S.state s.new) result }
+pub fn readdir<S: Sectors>(
+    s: &mut S,
+    site: Site,
+    procs: &Procs,
+    openings: &Openings,
+    place: OpenAt,
+) -> CallResult
+    requires ready { MayPerform site.geometry (S.state s.old) (both procs.now openings.now.0) }
+    requires start { offset_at place ≡ 0 }
+    ensures performs { Performs site.geometry site.time (list_through place) (S.state s.old) (S.state s.new)
+        (both procs.now openings.now.0) (both procs.now openings.now.0) result }
     ensures same { IsUnchanged (S.state s.old) (S.state s.new) }
 {
-    let (descriptor, inode) = reach_open(s, caller, pid, fd, OpenFor::Reading)?;
+    let geometry = site.geometry;
+    let (descriptor, inode) = reach_open(s, geometry, procs, openings, place, OpenFor::Reading)?;
     check_is_directory(inode.kind)?;
-    let names = list_names(s, caller, descriptor.ino, &inode)?;
+    let names = list_names(site.alloc, s, geometry, descriptor.ino, &inode)?;
     Ok(Reply::Names(names))
 }

@@ -1,6 +1,6 @@
 //! open: POSIX.1-2017, open(), with the flags of open(2), and the files that it makes.
 
-ghost use Rattle.std.specs.Prelude.{◌≡◌, ◌&&◌, false, Some, Ok, OnOk, not, ◌||◌, None};
+ghost use Rattle.std.specs.Prelude.{◌≡◌, ◌<◌, ◌&&◌, false, Some, Ok, OnOk, IfOk, IfErr, not, ◌||◌, None};
 ghost use Rattle.fs_layout.specs.Bytes.{IsBytes};
 ghost use Rattle.fs_layout.specs.Images.{inode_at};
 ghost use Rattle.fs_model.specs.declared.call.Call.TheVariants.{Open};
@@ -9,8 +9,12 @@ ghost use Rattle.fs_model.specs.OpenCall.{open_arguments, open_form};
 ghost use Rattle.fs_model.specs.Parts.{ends_with_slash};
 ghost use Rattle.path_walk.specs.Answers.{refused_or};
 ghost use Rattle.path_walk.specs.HeldTrees.{IsThere};
-ghost use Rattle.call_parts.specs.Callers.{ByProcess};
+ghost use Rattle.call_parts.specs.BothTables.{both, tables_in};
+ghost use Rattle.call_parts.specs.Callers.{ByCaller, who_of};
 ghost use Rattle.call_parts.specs.Performing.{MayPerform, Performs};
+ghost use Rattle.fs_model.specs.States.{State};
+ghost use Rattle.file_calls.specs.declared.opening.Slot.TheVariants.{Handle as HandleSlot};
+ghost use Rattle.file_calls.specs.Opens.{IsSlotRefused, IsSlotChosen, MayFillSlot, IsSlotFilled, opened_so};
 ghost use Rattle.call_parts.specs.Telling.{checked, ShowsTree, TellsTree, ShowsInode, ReadsInode};
 ghost use Rattle.file_calls.specs.Openings.{open_asked, open_kind_asked, found_asked, MayOpen, Opens};
 ghost use Rattle.fs_model.specs.Births.{born_acl};
@@ -22,15 +26,15 @@ ghost use Rattle.call_parts.specs.NewNodes.{MakesNode, file_made};
 
 use crate::transfer::give_size;
 use call_parts::{
-    Asker, CallResult, Caller, check_make, default_of, inherited, name_inode, new_group, permitted,
-    touch,
+    By, CallResult, Caller, Site, check_from, check_make, default_of, find, inherited, name_inode,
+    new_group, permitted, touch,
 };
 use fs_cred::{Cred, Errno, Refusal};
 use fs_layout::{Geometry, Inode, Kind};
 use fs_model::{Flags, Form, Found, Path, Reply, Touch};
 use inode_table::new_inode;
-use open_files::{Descriptor, Process, Procs};
-use path_walk::{check_path, ends_with_slash, load_inode, walk};
+use open_files::{Descriptor, Judged, Opened, Openings, Procs};
+use path_walk::{ends_with_slash, load_inode};
 use posix_acl::{Acl, Perms};
 use sector_txn::Sectors;
 
@@ -67,13 +71,13 @@ fn check_slash(flags: Flags, path: &Path) -> Result<(), Refusal>
     Ok(())
 }
 
-// Asks what needs neither the process nor the tree.
-fn check_open(flags: Flags, mode: u16, path: &Path) -> Result<(), Refusal>
-    ensures answer { result ≡ checked (first_of (open_asked flags mode path.now)) }
+// Asks what needs neither the caller nor the tree.
+fn check_open(by: By, flags: Flags, mode: u16, path: &Path) -> Result<(), Refusal>
+    ensures answer { result ≡ checked (first_of (open_asked (who_of by.entry) flags mode path.now)) }
     ensures bytes { OnOk result (IsBytes path.now) }
 {
     check_arguments(flags, mode)?;
-    check_path(path)?;
+    check_from(by, path)?;
     check_slash(flags, path)?;
     Ok(())
 }
@@ -151,7 +155,7 @@ fn cuts(flags: Flags) -> bool
 fn open_old<S: Sectors>(
     s: &mut S,
     caller: &Caller,
-    process: &Process,
+    process: &Judged,
     opening: &Opening,
     ino: u32,
 ) -> Result<u32, Refusal>
@@ -175,7 +179,7 @@ fn open_old<S: Sectors>(
 fn open_inode<S: Sectors>(
     s: &mut S,
     caller: &Caller,
-    process: &Process,
+    process: &Judged,
     opening: &Opening,
 ) -> Result<u32, Refusal>
     requires { MayOpen caller.now.geometry (S.state s.old) process.now opening.now }
@@ -187,43 +191,104 @@ fn open_inode<S: Sectors>(
     }
 }
 
-/// Opens what a path leads to, at the lowest unused descriptor and at offset 0. With O_CREAT a file is made where there is
-/// none; with O_TRUNC a file that is opened for writing loses its bytes.
+/// Where what is opened is put: at an unused descriptor of a process, or under a new handle.
+#[derive(Clone, Copy)]
+enum Slot {
+    Descriptor { pid: usize, fd: usize },
+    Handle,
+}
+
+// Where a caller puts what it opens, once all is asked that needs no tree. A process has an unused descriptor, and for a handle memory
+// is reserved. ESRCH: there is no such process. EMFILE: all descriptors are used. ENOMEM: there is no memory for a handle.
+fn find_slot(
+    procs: &Procs,
+    openings: &mut Openings,
+    by: By,
+    path: &Path,
+    flags: Flags,
+    mode: u16,
+) -> Result<Slot, Refusal>
+    ensures refused { IfErr result (λ e. (st : State) → tables_in st ≡ both procs.now openings.old.0
+        → IsSlotRefused st (who_of by.entry) path.now flags mode e) }
+    ensures placed { IfOk result (IsSlotChosen (both procs.now openings.old.0) (who_of by.entry) path.now flags mode) }
+    ensures room { IfOk result (λ slot. slot ≡ HandleSlot → 0 < openings.new.1) }
+    ensures same { openings.new.0 ≡ openings.old.0 }
+{
+    match by {
+        By::Process(pid) => {
+            procs.process(pid)?;
+            check_open(by, flags, mode, path)?;
+            let fd = procs.open_slot(pid)?;
+            Ok(Slot::Descriptor { pid, fd })
+        }
+        By::Actor(actor) => {
+            let _judged = Judged::actor(actor);
+            check_open(by, flags, mode, path)?;
+            openings.reserve()?;
+            Ok(Slot::Handle)
+        }
+    }
+}
+
+// Puts what was opened there, and answers where it is.
+fn put_open(procs: &mut Procs, openings: &mut Openings, slot: Slot, ino: u32, flags: Flags) -> Reply
+    requires may { MayFillSlot procs.old openings.old.1 slot }
+    ensures { IsSlotFilled (both procs.old openings.old.0) slot (opened_so ino flags) (both procs.new openings.new.0) result }
+{
+    match slot {
+        Slot::Descriptor { pid, fd } => {
+            let descriptor = Descriptor {
+                ino,
+                offset: 0,
+                read: flags.read,
+                write: flags.write,
+                append: flags.append,
+            };
+            procs.open(pid, fd, descriptor);
+            Reply::Fd(fd)
+        }
+        Slot::Handle => {
+            let handle = openings.open(Opened {
+                ino,
+                read: flags.read,
+                write: flags.write,
+                append: flags.append,
+            });
+            Reply::Opened { handle, ino }
+        }
+    }
+}
+
+/// Opens what a path leads to: for a process at its lowest unused descriptor and at offset 0, for an actor under a new handle. With
+/// O_CREAT a file is made where there is none; with O_TRUNC a file that is opened for writing loses its bytes.
 ///
 /// EINVAL: O_CREAT with O_DIRECTORY, or a mode above 07777. EISDIR: a directory, for writing or with O_CREAT. EMFILE: all
 /// descriptors are used. EEXIST: it is there, with O_CREAT and O_EXCL. ELOOP: it is a symbolic link. ENOTDIR: it is no
 /// directory, with O_DIRECTORY. ENOENT: nothing is there. ENOSPC: there is no room for a new file.
 pub fn open<S: Sectors>(
     s: &mut S,
-    asker: Asker,
+    site: Site,
     procs: &mut Procs,
+    openings: &mut Openings,
+    by: By,
     path: &Path,
     flags: Flags,
     mode: u16,
 ) -> CallResult
-    requires ready { MayPerform asker.geometry (S.state s.old) procs.old }
-    ensures { Performs asker.geometry asker.time (ByProcess asker.pid) (Open path.now flags mode)
-        (S.state s.old) (S.state s.new) procs.old procs.new result }
+    requires ready { MayPerform site.geometry (S.state s.old) (both procs.old openings.old.0) }
+    ensures { Performs site.geometry site.time (ByCaller (who_of by.entry) (Open path.now flags mode))
+        (S.state s.old) (S.state s.new) (both procs.old openings.old.0) (both procs.new openings.new.0) result }
 {
-    let caller = asker.caller(procs);
-    let process = procs.process(asker.pid)?;
-    check_open(flags, mode, path)?;
-    let fd = procs.open_slot(asker.pid)?;
+    let slot = find_slot(procs, openings, by, path, flags, mode)?;
+    procs.tell_table();
+    let _bytes = path.bytes();
+    let caller = site.caller(procs, openings, by);
+    let process = caller.process()?;
     let form = form_of(flags);
-    let cred = process.cred();
-    let cwd = process.cwd();
-    let found = walk(asker.alloc, s, asker.geometry, cred, cwd, path, form, 1)?;
+    let found = find(s, &caller, &process, path, false, form)?;
     let opening = Opening { found, flags, mode };
-    let ino = open_inode(s, &caller, process, &opening)?;
-    let descriptor = Descriptor {
-        ino,
-        offset: 0,
-        read: flags.read,
-        write: flags.write,
-        append: flags.append,
-    };
-    procs.open(asker.pid, fd, descriptor);
-    Ok(Reply::Fd(fd))
+    let ino = open_inode(s, &caller, &process, &opening)?;
+    Ok(put_open(procs, openings, slot, ino, flags))
 }
 
 // The access ACL of what is made in a directory.
@@ -287,7 +352,7 @@ fn check_new(flags: Flags, found: &Found) -> Result<(), Refusal>
 pub(crate) fn open_new<S: Sectors>(
     s: &mut S,
     caller: &Caller,
-    process: &Process,
+    process: &Judged,
     opening: &Opening,
 ) -> Result<u32, Refusal>
     requires may { MayOpen caller.now.geometry (S.state s.old) process.now opening.now }

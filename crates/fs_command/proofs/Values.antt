@@ -77,7 +77,13 @@ upgrade_sound : Each (Sound (leaf 7).rules) (leaf 7).rules
 upgrade_sound = ((refl, inl (refl, refl, refl)), ((refl, inr (inr (refl, refl))), tt))
 
 fuse_sound : Each (Sound (leaf 8).rules) (leaf 8).rules
-fuse_sound = ((refl, inl (refl, refl, refl)), ((refl, inl (refl, refl, refl)), ((refl, inr (inl (refl, refl, refl, refl, refl, refl))), ((refl, inr (inr (refl, refl))), tt))))
+fuse_sound = (
+  (refl, inl (refl, refl, refl)),
+  (
+    (refl, inl (refl, refl, refl)),
+    ((refl, inr (inl (refl, refl, refl, refl, refl, refl))), ((refl, inl (refl, refl, refl)), ((refl, inr (inr (refl, refl))), tt))),
+  ),
+)
 
 mkfs_has : HasAll (leaf 0)
 mkfs_has words fault =
@@ -220,6 +226,7 @@ fuse_has : HasAll (leaf 8)
 fuse_has words fault =
     let image = (leaf_values (leaf 8) words fuse_sound refl fault).0 refl in
     let own_rules = (leaf_flags (leaf 8) words fuse_sound fault).1.1.0 (refl, refl, refl, refl, refl, refl) in
+    let commit = (leaf_texts (leaf 8) words fuse_sound fault).1.1.1.0 in
     record {
       known = refl;
       image = (image.0, image.1);
@@ -229,7 +236,7 @@ fuse_has words fault =
       unpack = λ is. of_another is refl;
       check = λ is. of_another is refl;
       info = λ is. of_another is refl;
-      fuse = λ _. own_rules;
+      fuse = λ _. (own_rules, (λ text is. counted 0 86400 _ (commit text is).0 (is ∙ ap Some (commit text is).1) (commit text is).2));
     }
 
 each_has : Each HasAll (built command_line).subs

@@ -82,7 +82,8 @@ abbrev pub upgrade : App
 upgrade = with_rule (new_app (codes "upgrade")) image
 
 abbrev pub fuse : App
-fuse = with_rule (with_rule (with_rule (new_app (codes "fuse")) image) (text_option (codes "denials"))) (flag (codes "own-rules"))
+fuse = with_rule (with_rule (with_rule (with_rule (new_app (codes "fuse")) image) (text_option (codes "denials"))) (flag (codes "own-rules")))
+    (number_option (codes "commit") 0 86400)
 
 -- the program alone, with `--version` and no command `help`
 abbrev pub alone : App
@@ -166,8 +167,9 @@ SaysUpgrade rows (Upgrade image) = first_of (codes "IMAGE") rows ≡ Some image
 SaysUpgrade rows job = ⊥
 
 abbrev pub SaysFuse : List Row → Job → Type 0
-SaysFuse rows (Fuse image denials own_rules) = (first_of (codes "IMAGE") rows ≡ Some image)
+SaysFuse rows (Fuse image denials own_rules commit) = (first_of (codes "IMAGE") rows ≡ Some image)
     × (first_of (codes "denials") rows ≡ denials) × (is_given (codes "own-rules") rows ≡ own_rules)
+    × IsNumberOr 0 0 86400 (one_of (codes "commit") rows) commit
 SaysFuse rows job = ⊥
 
 -- the job of a command and its values, or of none
@@ -183,8 +185,8 @@ SaysJob named (Run image script) = (rows : List Row) × (named ≡ Some (codes "
 SaysJob named (Check image explain) = (rows : List Row) × (named ≡ Some (codes "check", rows)) × SaysCheck rows (Check image explain)
 SaysJob named (Info image json) = (rows : List Row) × (named ≡ Some (codes "info", rows)) × SaysInfo rows (Info image json)
 SaysJob named (Upgrade image) = (rows : List Row) × (named ≡ Some (codes "upgrade", rows)) × SaysUpgrade rows (Upgrade image)
-SaysJob named (Fuse image denials own_rules) =
-    (rows : List Row) × (named ≡ Some (codes "fuse", rows)) × SaysFuse rows (Fuse image denials own_rules)
+SaysJob named (Fuse image denials own_rules commit) =
+    (rows : List Row) × (named ≡ Some (codes "fuse", rows)) × SaysFuse rows (Fuse image denials own_rules commit)
 
 -- the job is that of the command that the words name, with its values. The first word is the program's name.
 abbrev pub AsksFor : List Text → Job → Type 0
@@ -264,7 +266,7 @@ pub record IsWhole (name : Text) (rows : List Row) : Type 0 where
   pub unpack : name ≡ codes "unpack" → IsGiven (codes "DIR") rows
   pub check : name ≡ codes "check" → IsFlag (codes "explain") rows
   pub info : name ≡ codes "info" → IsFlag (codes "json") rows
-  pub fuse : name ≡ codes "fuse" → IsFlag (codes "own-rules") rows
+  pub fuse : name ≡ codes "fuse" → IsFlag (codes "own-rules") rows × IsNumberIfGiven 0 86400 (codes "commit") rows
 
 abbrev pub HasValues : Option (Text × List Row) → Type 0
 HasValues None = Unit {0}

@@ -30,7 +30,7 @@ const USAGE: &str = "inofs
        inofs check [--explain] IMAGE
        inofs info [--json] IMAGE
        inofs upgrade IMAGE
-       inofs fuse IMAGE [--denials FILE] [--own-rules]";
+       inofs fuse IMAGE [--denials FILE] [--own-rules] [--commit SECONDS]";
 
 const STATUSES: &str =
     "With no command, runs the script on the standard input on a new disk in memory.
@@ -148,6 +148,8 @@ pub enum Job {
         denials: Option<Text>,
         /// The kernel judges no ACLs: every denial is ours.
         own_rules: bool,
+        /// After how many seconds a request has everything kept first; 0 where none does.
+        commit: u32,
     },
 }
 
@@ -369,15 +371,18 @@ fn upgrade_job(alloc: Global, matches: &ArgMatches<'_>) -> Result<Job, AllocErro
 fn fuse_job(alloc: Global, matches: &ArgMatches<'_>) -> Result<Job, AllocError>
     requires image { IsGiven (codes "IMAGE") (rows_of (found_of matches.now)) }
     requires own_rules { IsFlag (codes "own-rules") (rows_of (found_of matches.now)) }
+    requires commit { IsNumberIfGiven 0 86400 (codes "commit") (rows_of (found_of matches.now)) }
     ensures { IfOk result (SaysFuse (rows_of (found_of matches.now))) }
 {
     let image = text_given(alloc, matches, "IMAGE")?;
     let denials = text_if_given(alloc, matches, "denials")?;
     let own_rules = flag_given(matches, "own-rules");
+    let commit = commit_given(matches);
     Ok(Job::Fuse {
         image,
         denials,
         own_rules,
+        commit,
     })
 }
 
@@ -431,6 +436,14 @@ fn inodes_given(matches: &ArgMatches<'_>, sectors: u32) -> u32
     matches
         .get_one::<u32>("inodes")
         .unwrap_or(usual_inodes(sectors))
+}
+
+// After how many seconds everything is kept: as many as the words say, else 0, where time keeps nothing.
+fn commit_given(matches: &ArgMatches<'_>) -> u32
+    requires given { IsNumberIfGiven 0 86400 (codes "commit") (rows_of (found_of matches.now)) }
+    ensures { IsNumberOr 0 0 86400 (one_of (codes "commit") (rows_of (found_of matches.now))) result }
+{
+    matches.get_one::<u32>("commit").unwrap_or(0)
 }
 
 // The command line.
@@ -496,12 +509,12 @@ fn mkfs_command<'a>(alloc: Global) -> Result<Command<'a>, AllocError>
         "The image, which must not exist",
     )?
     .arg(
-        number(alloc, "sectors", 1024, 65536)
+        number(alloc, "sectors", "N", 1024, 65536)
             .required(true)
             .help("Sectors of 512 bytes, 1024 to 65536"),
     )?
     .arg(
-        number(alloc, "inodes", 16, 4096)
+        number(alloc, "inodes", "N", 16, 4096)
             .required(true)
             .help("Inodes, 16 to 4096"),
     )
@@ -534,10 +547,10 @@ fn pack_command<'a>(alloc: Global) -> Result<Command<'a>, AllocError>
         "The directory; of its access lists the masks become groups' bits",
     ))?;
     with_size(alloc, command)?
-        .arg(number(alloc, "uid", 0, 4294967295).help(
+        .arg(number(alloc, "uid", "N", 0, 4294967295).help(
             "The user of all; without it each one's own",
         ))?
-        .arg(number(alloc, "gid", 0, 4294967295).help(
+        .arg(number(alloc, "gid", "N", 0, 4294967295).help(
             "The group of all; without it each one's own",
         ))
 }
@@ -552,7 +565,7 @@ fn with_size<'a>(alloc: Global, command: Command<'a>) -> Result<Command<'a>, All
                 .required(true)
                 .help("Bytes, or with K, M or G: 512K to 8G"),
         )?
-        .arg(number(alloc, "inodes", 16, 1048576).help(
+        .arg(number(alloc, "inodes", "N", 16, 1048576).help(
             "Inodes, 16 to 1048576; without it one for 32 sectors",
         ))
 }
@@ -626,7 +639,10 @@ fn fuse_command<'a>(alloc: Global) -> Result<Command<'a>, AllocError>
     .arg(text_option(alloc, "denials", "FILE").help(
         "The file to which denials are written, a line each",
     ))?
-    .arg(flag(alloc, "own-rules").help("Let the kernel judge no ACLs"))
+    .arg(flag(alloc, "own-rules").help("Let the kernel judge no ACLs"))?
+    .arg(number(alloc, "commit", "SECONDS", 0, 86400).help(
+        "Keep all so often, 1 to 86400; with 0, or without it, only fsync and the unmount do",
+    ))
 }
 
 // A command on an image.
@@ -660,13 +676,13 @@ fn directory<'a>(alloc: Global) -> Arg<'a>
 }
 
 // A number that may be given, within its bounds.
-fn number<'a>(alloc: Global, name: &'a str, least: u64, most: u64) -> Arg<'a>
+fn number<'a>(alloc: Global, name: &'a str, value_name: &'a str, least: u64, most: u64) -> Arg<'a>
     ensures rule { rule_of result ≡ number_option name.entry.now least most }
     ensures local { result.global ≡ false }
 {
     Arg::new(alloc, name)
         .long(name)
-        .value_name("N")
+        .value_name(value_name)
         .value_parser(ValueParser::unsigned(least, most))
 }
 

@@ -2,8 +2,7 @@
 ghost use Rattle.std.specs.Prelude.{◌≡◌};
 ghost use Rattle.fs_fuse.specs.Performing.{ServesOne};
 
-use fs_cred::Cred;
-use fs_model::{Call, Event, Reply};
+use fs_model::{Actor, Call, Event, HandleCall, Reply};
 use fs_system::Fs;
 use fuse_steps::Machine;
 use sector_disk::Disk;
@@ -50,11 +49,11 @@ impl<D: Disk + Drop> Machine for Mounted<D> {
         self.fs.serve(event)
     }
 
-    fn call(&mut self, pid: usize, call: &Call) -> Reply {
-        self.fs.serve_call(pid, call)
+    fn call_at(&mut self, actor: &Actor, call: &Call) -> Reply {
+        self.fs.serve_call_at(actor, call)
     }
 
-    fn spawn(&mut self, cred: &Cred) -> Reply {
-        self.fs.serve_spawn(cred)
+    fn call_by(&mut self, handle: u64, call: &HandleCall) -> Reply {
+        self.fs.serve_call_by(handle, call)
     }
 }

@@ -16,8 +16,8 @@ use std::alloc::Global;
 ///
 /// # Errors
 ///
-/// See [`ServeFault`]. What was served before stays, and no process of the server has gone. Where a reply could not be made or
-/// written, its request was performed.
+/// See [`ServeFault`]. What was served before stays, and what is open stays so. Where a reply could not be made or written, its request
+/// was performed.
 pub fn serve_requests<D: Disk + Drop, K: Kernel, W: Witness>(
     alloc: Global,
     fs: Fs<D>,

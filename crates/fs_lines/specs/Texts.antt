@@ -25,7 +25,7 @@ use Rattle.fs_model.specs.declared.reply.FileType.TheVariants.{File, Directory, 
 use Rattle.fs_model.specs.declared.reply.Stamps.{Stamps}
 use Rattle.fs_model.specs.declared.reply.Status.{Status}
 use Rattle.fs_model.specs.declared.reply.Reply.{Reply}
-use Rattle.fs_model.specs.declared.reply.Reply.TheVariants.{Done, Pid, Fd, Data, Wrote, At, Target, Mask, Shown, Granted, Acl, Names, Space, Stamped, Refused}
+use Rattle.fs_model.specs.declared.reply.Reply.TheVariants.{Done, Pid, Fd, Data, Wrote, At, Target, Mask, Shown, Granted, Acl, Names, Space, Stamped, Opened, Made, Refused}
 use Rattle.fs_lines.specs.declared.line.LineFault.{LineFault}
 use Rattle.fs_lines.specs.declared.line.LineFault.TheVariants.{TooLong, BadByte, BadEscape, UnknownCommand, WordCount, BadNumber, BadAcl, OutOfMemory}
 use Rattle.fs_lines.specs.Lines.{empty_word, is_plain}
@@ -146,6 +146,8 @@ reply_text (Acl acl) = codes "acl " ++ acl_text acl
 reply_text (Names names) = codes "list" ++ names_text names
 reply_text (Space blocks inodes) = codes "free " ++ decimal blocks ++ codes " blocks " ++ decimal inodes ++ codes " inodes"
 reply_text (Stamped stamps) = stamps_text stamps
+reply_text (Opened handle ino) = codes "handle " ++ decimal handle ++ codes " inode " ++ decimal ino
+reply_text (Made ino) = codes "made " ++ decimal ino
 reply_text (Refused refusal) = refusal_text refusal
 
 abbrev pub fault_number : LineFault → ℕ

@@ -86,6 +86,8 @@ fn push_reply(text: &mut String, reply: &Reply) -> Result<(), AllocError>
         Reply::Names(names) => push_names(text, names),
         Reply::Space { sectors, inodes } => write!(text, "free {sectors} blocks {inodes} inodes"),
         Reply::Stamped(stamps) => push_stamps(text, *stamps),
+        Reply::Opened { handle, ino } => write!(text, "handle {handle} inode {ino}"),
+        Reply::Made(ino) => write!(text, "made {ino}"),
         Reply::Refused(refusal) => push_refusal(text, refusal),
     }
 }

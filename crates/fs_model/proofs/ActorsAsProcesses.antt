@@ -1,58 +1,57 @@
 -- An actor's call is refused, changes the tree and answers as the call of a process that stands there.
-use Rattle.std.specs.Prelude.{◌≡◌, ℕ, ◌+◌, ◌%◌, false, not, ◌&&◌, List, [], ◌∷◌, ◌++◌, Some, is_some, IsTrue, IsFalse}
+use Rattle.std.specs.Prelude.{◌≡◌, ℕ, ◌+◌, ◌==◌, Bool, true, if◌then◌else◌, false, not, ◌&&◌, List, [], ◌∷◌, ◌++◌, is_some, IsTrue, IsFalse}
 use Rattle.std.proofs.Common.{refl, sym, ap, ◌∙◌, subst}
 use Rattle.std.specs.List.{flat_map}
-use Rattle.std.specs.Ordering.{nat_cmp}
 use Rattle.fs_cred.specs.declared.errno.Errno.TheVariants.{ENOENT, EBADF, ELOOP}
 use Rattle.fs_cred.specs.Credentials.{Credential}
-use Rattle.fs_layout.specs.Maps.{get}
 use Rattle.fs_model.specs.declared.call.Call.{Call}
 use Rattle.fs_model.specs.declared.event.Actor.{Actor}
 use Rattle.fs_model.specs.declared.walk.Form.{Form}
 use Rattle.fs_model.specs.Limits.{root}
+use Rattle.fs_model.specs.Walks.{first_refusal}
 use Rattle.fs_model.specs.Trees.{Tree, Room, node_at, IsDirectoryAt}
-use Rattle.fs_model.specs.Processes.{Process, ProcessTable, cwd_of}
-use Rattle.fs_model.specs.States.{State, IsState}
+use Rattle.fs_model.specs.Processes.{Process}
+use Rattle.fs_model.specs.States.{State}
 use Rattle.fs_model.specs.Demands.{Demand, refuse, or_else, first_of}
 use Rattle.fs_model.specs.Parts.{is_empty, path_checks}
-use Rattle.fs_model.specs.Walks.{first_refusal}
 use Rattle.fs_model.specs.Scenes.{Scene, Row}
 use Rattle.fs_model.specs.Rows.{row_of}
-use Rattle.fs_model.specs.Actors.{judged_as, standing_as, is_actor_call, checks_from, acts_on_links, starts_at_end, is_link_node, start_demands}
-use Rattle.fs_model.specs.Steps.{After, trail_in, walk_refusals, scene_of, actor_scene, early_refusal, late_refusal, early_call_at, late_call_at, demand_of, firm_refusal, other_refusal, after, after_call, after_call_at}
+use Rattle.fs_model.specs.Actors.{judged_as, start_of_walk, is_actor_call, checks_from, acts_on_links, starts_at_end, is_link_node, start_demands, opened_by, actor_reply}
+use Rattle.fs_model.specs.Steps.{Choice, After, walk_refusals, scene_of, scene_from, trail_in, actor_scene, early_refusal, late_refusal, early_call_at, late_call_at, demand_of, firm_refusal, other_refusal, after, after_call_at}
 use Rattle.fs_model.specs.ActorLaws.{MatchesActor, HaveNames, ActorsCallAsProcesses}
-use Rattle.fs_model.proofs.EachActorCall.{bare, bare_scene, each_actor_call}
-use Rattle.fs_model.proofs.Unchanged.{same_process_stays}
+use Rattle.fs_model.proofs.EachActorCall.{bare, bare_scene, TakesZero, each_actor_call}
 
 -- ---- the process, and the actor
-
--- with nothing open
-abbrev unladen : Process → Process
-unladen p = record p { descriptors = [] }
 
 module _ (v : Actor) (p : Process) (alike : MatchesActor v p) where
   judged_is : bare p ≡ judged_as v
   judged_is =
-      ap {A = Credential} {B = Process} (λ cred. record { cred = cred; umask = p.umask; cwd = root; second_cwd = root; descriptors = [] }) alike.cred
-      ∙ ap {A = ℕ} {B = Process} (λ mask. record { cred = v.cred; umask = mask; cwd = root; second_cwd = root; descriptors = [] }) alike.umask
+      ap {A = Credential} {B = Process} (λ cred. record { cred = cred; umask = p.umask; cwd = root; descriptors = [] }) alike.cred
+      ∙ ap {A = ℕ} {B = Process} (λ mask. record { cred = v.cred; umask = mask; cwd = root; descriptors = [] }) alike.umask
 
-  standing_is : unladen p ≡ standing_as v
-  standing_is =
-      ap {A = Credential} {B = Process} (λ cred. record { cred = cred; umask = p.umask; cwd = p.cwd; second_cwd = p.second_cwd; descriptors = [] }) alike.cred
-      ∙ ap {A = ℕ} {B = Process} (λ mask. record { cred = v.cred; umask = mask; cwd = p.cwd; second_cwd = p.second_cwd; descriptors = [] }) alike.umask
-      ∙ ap {A = ℕ} {B = Process} (λ n. record { cred = v.cred; umask = v.umask % 512; cwd = n; second_cwd = p.second_cwd; descriptors = [] }) alike.start
-      ∙ ap {A = ℕ} {B = Process} (λ n. record { cred = v.cred; umask = v.umask % 512; cwd = v.start; second_cwd = n; descriptors = [] }) alike.second_start
-
-  -- ---- what is found
-
+  -- what is found
   scene_is_bare : (s : State) (row : Row) → bare_scene (scene_of s p row) ≡ actor_scene s v row
   scene_is_bare s row =
-      ap {A = Process} {B = Scene} (λ q. record (scene_of s q row) { process = bare p }) standing_is
-      ∙ ap {A = Process} {B = Scene} (λ q. record (scene_of s (standing_as v) row) { process = q }) judged_is
+      ap {A = Process} {B = Scene} (λ q. record (scene_of s p row) { process = q }) judged_is
+      ∙ ap {A = ℕ} {B = Scene} (λ n. record (scene_from s (judged_as v) (λ k. if k == 1 then n else p.cwd) row) { process = judged_as v }) alike.start
+      ∙ ap {A = ℕ} {B = Scene} (λ n. record (scene_from s (judged_as v) (λ k. if k == 1 then v.start else n) row) { process = judged_as v }) alike.second_start
 
-walks-unladen : (room : Room) (t : Tree) (p : Process) (k : ℕ) (walks : List (Form × List ℕ)) → walk_refusals room t (unladen p) k walks ≡ walk_refusals room t p k walks
-walks-unladen room t p k [] = refl
-walks-unladen room t p k (walk ∷ walks) = ap (λ ds. first_refusal t p.cred k walk.0 (trail_in room t (cwd_of p k) walk) ∷ ds) (walks-unladen room t p (k + 1) walks)
+  starts_are : (k : ℕ) → start_of_walk v k ≡ p.cwd
+  starts_are k = go (k == 1)
+    where
+      go : (b : Bool) → (if b then v.start else v.second_start) ≡ p.cwd
+      go true = sym alike.start
+      go false = sym alike.second_start
+
+  takes_zero : TakesZero p.descriptors
+  takes_zero = subst TakesZero (sym alike.descriptors) (λ d. refl)
+
+walks-same : (room : Room) (t : Tree) (cred : Credential) (starts starts' : ℕ → ℕ) → ((k : ℕ) → starts k ≡ starts' k) → (k : ℕ) (walks : List (Form × List ℕ))
+    → walk_refusals room t cred starts k walks ≡ walk_refusals room t cred starts' k walks
+walks-same room t cred starts starts' same k [] = refl
+walks-same room t cred starts starts' same k (walk ∷ walks) =
+    ap (λ start. first_refusal t cred k walk.0 (trail_in room t start walk) ∷ walk_refusals room t cred starts (k + 1) walks) (same k)
+    ∙ ap (λ ds. first_refusal t cred k walk.0 (trail_in room t (starts' k) walk) ∷ ds) (walks-same room t cred starts starts' same (k + 1) walks)
 
 -- ---- what is asked
 
@@ -91,42 +90,45 @@ module _ (s : State) (v : Actor) (p : Process) (call : Call) (alike : MatchesAct
       let of = each_actor_call call allowed_call in
       ap (λ b. or_else (refuse EBADF (not b)) (first_of (row.arguments ++ flat_map (λ walk. checks_from walk.1) row.walks ++ row.early (judged_as v)))) allowed_call
       ∙ ap (λ ds. first_of (row.arguments ++ ds ++ row.early (judged_as v))) (checks_are row.walks some)
-      ∙ ap (λ ds. first_of (row.arguments ++ flat_map (λ walk. path_checks walk.1) row.walks ++ ds)) (of.early (judged_as v) ∙ sym (of.early p))
+      ∙ ap (λ q. first_of (row.arguments ++ flat_map (λ walk. path_checks walk.1) row.walks ++ row.early q)) (sym (judged_is v p alike))
+      ∙ ap (λ ds. first_of (row.arguments ++ flat_map (λ walk. path_checks walk.1) row.walks ++ ds)) (of.early p alike.descriptors)
 
   late_is : IsDirectoryAt s.tree v.start → IsDirectoryAt s.tree v.second_start → late_call_at s v call (row_of call) ≡ late_refusal s p (row_of call)
   late_is first second =
       let row = row_of call in
-      let walks = walk_refusals s.room s.tree (standing_as v) 1 row.walks in
+      let walks = walk_refusals s.room s.tree v.cred (start_of_walk v) 1 row.walks in
+      let called = walk_refusals s.room s.tree p.cred (λ _. p.cwd) 1 row.walks in
       let demands = row.demands (actor_scene s v row) in
       first_of-append (start_demands s.tree v call row.walks) walks demands
       ∙ starts_ask_nothing s.tree v call row.walks (walks ++ demands) first second some
-      ∙ ap (λ q. first_of (walk_refusals s.room s.tree q 1 row.walks ++ demands)) (sym (standing_is v p alike))
-      ∙ ap (λ ds. first_of (ds ++ demands)) (walks-unladen s.room s.tree p 1 row.walks)
-      ∙ ap (λ c. first_of (walk_refusals s.room s.tree p 1 row.walks ++ row.demands c)) (sym (scene_is_bare v p alike s row))
-      ∙ ap (λ ds. first_of (walk_refusals s.room s.tree p 1 row.walks ++ ds)) ((each_actor_call call allowed_call).demands (scene_of s p row))
+      ∙ ap (λ cred. first_of (walk_refusals s.room s.tree cred (start_of_walk v) 1 row.walks ++ demands)) (sym alike.cred)
+      ∙ ap (λ ds. first_of (ds ++ demands)) (walks-same s.room s.tree p.cred (start_of_walk v) (λ _. p.cwd) (starts_are v p alike) 1 row.walks)
+      ∙ ap (λ c. first_of (called ++ row.demands c)) (sym (scene_is_bare v p alike s row))
+      ∙ ap (λ ds. first_of (called ++ ds)) ((each_actor_call call allowed_call).demands (scene_of s p row))
 
-  -- the process is put back as it was
-  after_is : (pid number : ℕ) → IsState s → get nat_cmp s.processes pid ≡ Some p
-      → after_call_at s ((row_of call).effect (actor_scene s v (row_of call)) number) ≡ after_call s pid (row_of call) number (Some p)
-  after_is pid number is here =
+  after_is : (choice : Choice) → after_call_at s call choice ((row_of call).effect (actor_scene s v (row_of call)) choice.ino)
+      ≡ after_call_at s call choice ((row_of call).effect (scene_of s p (row_of call)) choice.ino)
+  after_is choice =
       let row = row_of call in
       let of = each_actor_call call allowed_call in
       let c = scene_of s p row in
-      let e = row.effect c number in
-      let stays = ap (λ q. Rattle.fs_layout.specs.Maps.with_entry nat_cmp s.processes pid q) (of.process c number) ∙ same_process_stays s.processes pid p is.pids here in
-      ap {A = Scene} {B = After} (λ c. after_call_at s (row.effect c number)) (sym (scene_is_bare v p alike s row))
-      ∙ ap {B = After} (λ change. record { change = change; processes = s.processes; reply = (row.effect (bare_scene c) number).reply; now = s.now }) (of.change c number)
-      ∙ ap {B = After} (λ reply. record { change = e.change; processes = s.processes; reply = reply; now = s.now }) (of.reply c number)
-      ∙ ap {A = ProcessTable} {B = After} (λ processes. record { change = e.change; processes = processes; reply = e.reply; now = s.now }) (sym stays)
+      let n = choice.ino in
+      let zero = takes_zero v p alike in
+      let e = row.effect c n in
+      let bare_e = row.effect (bare_scene c) n in
+      ap {A = Scene} {B = After} (λ c. after_call_at s call choice (row.effect c n)) (sym (scene_is_bare v p alike s row))
+      ∙ ap {B = After} (λ change. record { change = change; processes = s.processes; openings = opened_by call choice.handle bare_e.process s.openings; reply = actor_reply call choice.handle n bare_e; now = s.now }) (of.change c n)
+      ∙ ap {B = After} (λ openings. record { change = e.change; processes = s.processes; openings = openings; reply = actor_reply call choice.handle n bare_e; now = s.now }) (of.opened c choice.handle n s.openings zero)
+      ∙ ap {B = After} (λ reply. record { change = e.change; processes = s.processes; openings = opened_by call choice.handle e.process s.openings; reply = reply; now = s.now }) (of.told c choice.handle n zero)
 
 pub actors_call_as_processes : ActorsCallAsProcesses
 unfolding firm_refusal other_refusal after
 actors_call_as_processes s v pid p call choice is runs here alike allowed_call some =
     let fits = (is.processes runs).each_process pid p here in
     let first : IsDirectoryAt s.tree v.start = subst (IsDirectoryAt s.tree) alike.start fits.cwd in
-    let second : IsDirectoryAt s.tree v.second_start = subst (IsDirectoryAt s.tree) alike.second_start fits.second_cwd in
+    let second : IsDirectoryAt s.tree v.second_start = subst (IsDirectoryAt s.tree) alike.second_start fits.cwd in
     record {
       firm = early_is s v p call alike allowed_call some ∙ ap (demand_of (λ p. early_refusal p (row_of call))) (sym here);
       other = late_is s v p call alike allowed_call some first second ∙ ap (demand_of (λ p. late_refusal s p (row_of call))) (sym here);
-      after = after_is s v p call alike allowed_call some pid choice.ino is here ∙ ap (after_call s pid (row_of call) choice.ino) (sym here);
+      after = after_is s v p call alike allowed_call some choice;
     }

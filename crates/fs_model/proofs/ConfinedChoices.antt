@@ -11,18 +11,18 @@ use Rattle.fs_layout.proofs.MapLaws.{with_entry-IsMap}
 use Rattle.fs_layout.proofs.NameMaps.{leading-with_name, once_same}
 use Rattle.fs_model.specs.declared.call.Call.{Call}
 use Rattle.fs_model.specs.declared.event.Event.{Event}
-use Rattle.fs_model.specs.declared.event.Event.TheVariants.{Spawn, Exit, Call as Calls, CallAt, Enter, Stamp, Clock, Fsync, Sync, Statfs, Arm, Restart}
+use Rattle.fs_model.specs.declared.event.Event.TheVariants.{Spawn, Exit, Call as Calls, CallAt, CallBy, Stamp, Clock, Fsync, Sync, Statfs, Arm, Restart}
 use Rattle.fs_model.specs.declared.reply.Reply.{Reply}
 use Rattle.fs_model.specs.Nodes.{Node, names_of_body}
 use Rattle.fs_model.specs.Trees.{Tree, Room, node_at, with_node, names_of}
-use Rattle.fs_model.specs.Processes.{Process, ProcessTable}
+use Rattle.fs_model.specs.Processes.{Process, ProcessTable, Openings, users}
 use Rattle.fs_model.specs.TreeChanges.{Make, changed, swept, touches, touched}
 use Rattle.fs_model.specs.States.{State, IsState, MayBeFree}
 use Rattle.fs_model.specs.Alike.{AreAlike, node_seen}
 use Rattle.fs_model.specs.Ranges.{IsCall, IsEvent}
 use Rattle.fs_model.specs.Scenes.{Effect}
 use Rattle.fs_model.specs.Rows.{row_of}
-use Rattle.fs_model.specs.Steps.{Choice, Acts, after, after_call, after_effect, tree_after, state_after, scene_of, firm_refusal, other_refusal, early_refusal, late_refusal, demand_of, HasNewNumber, HasNewPid}
+use Rattle.fs_model.specs.Steps.{Choice, Acts, after, after_call, after_effect, tree_after, state_after, scene_of, firm_refusal, other_refusal, early_refusal, late_refusal, demand_of, HasNewNumber, HasNewPid, HasNewHandle}
 use Rattle.fs_model.specs.Confinement.{IsConfined, StepBy, early, late, done, IsOf, AnswerAlike}
 use Rattle.fs_model.proofs.ConfinedEvents.{confined}
 use Rattle.fs_model.proofs.ConfinedSteps.{same_processes, same_seen}
@@ -102,20 +102,22 @@ some_kept : (keeps : ℕ × Node → Bool) (m : ℕ) (o : Option Node) → is_so
 some_kept keeps m None h = h
 some_kept keeps m (Some node) h = refl
 
-made_stays : (s : State) (processes : ProcessTable) (dir_ino : ℕ) (name : List ℕ) (n : ℕ) (node : Node) → IsState s → IsNameAt s.room s.tree dir_ino name None
+made_stays : (s : State) (processes : ProcessTable) (openings : Openings) (dir_ino : ℕ) (name : List ℕ) (n : ℕ) (node : Node) → IsState s → IsNameAt s.room s.tree dir_ino name None
     → node_at s.tree n ≡ None
-    → MayBeLeft s.room (changed s.tree (Make dir_ino name n node)) processes → Made s.tree (swept (changed s.tree (Make dir_ino name n node)) processes) n
-made_stays s processes dir_ino name n node is at new left =
+    → MayBeLeft s.room (changed s.tree (Make dir_ino name n node)) processes openings
+    → Made s.tree (swept (changed s.tree (Make dir_ino name n node)) (users processes openings)) n
+made_stays s processes openings dir_ino name n node is at new left =
+    let all = users processes openings in
     let made = changed s.tree (Make dir_ino name n node) in
     let swept_at =
-    at-swept s.room made processes left.tree n node (made_at s.tree is.tree.numbers dir_ino name at n node new)
-    (named_stays s.room made processes left.tree n node (has_name s.tree is.tree.numbers dir_ino name at n node new)) in
+    at-swept s.room made all left.tree n node (made_at s.tree is.tree.numbers dir_ino name at n node new)
+    (named_stays s.room made all left.tree n node (has_name s.tree is.tree.numbers dir_ino name at n node new)) in
     record {
       unused = new;
       there = ap is_some swept_at;
       others = λ m ne there.
           others_were s.tree is.tree.numbers dir_ino name at n node new m ne
-          (some_kept (stays made processes) m (node_at made m) (sym (ap is_some (get-filter (stays made processes) made left.tree.numbers m)) ∙ there));
+          (some_kept (stays made all) m (node_at made m) (sym (ap is_some (get-filter (stays made all) made left.tree.numbers m)) ∙ there));
     }
 
 -- ---- one call that acts
@@ -154,12 +156,12 @@ module _ (s : State) (is : IsState s) (pid : ℕ) (p : Process) (here : get nat_
             let processes = with_entry nat_cmp s.processes pid (effect_with choice.ino).process in
             let fresh : HasNewNumber s (effect_with choice.ino).change = subst (λ a. HasNewNumber s a.change) a acts.allowed.number in
             let made : HasNewNumber s (Make c.first.dir_ino c.first.name choice.ino node) = subst (HasNewNumber s) change fresh in
-            let left : MayBeLeft s.room (changed s.tree (effect_with choice.ino).change) processes =
+            let left : MayBeLeft s.room (changed s.tree (effect_with choice.ino).change) processes s.openings =
             process_leaves s pid p call choice.ino is acts.running here fits early late fresh in
-            let stays = made_stays s processes c.first.dir_ino c.first.name choice.ino node is makes.0 made.2
-            (subst (λ ch. MayBeLeft s.room (changed s.tree ch) processes) change left) in
+            let stays = made_stays s processes s.openings c.first.dir_ino c.first.name choice.ino node is makes.0 made.2
+            (subst (λ ch. MayBeLeft s.room (changed s.tree ch) processes s.openings) change left) in
             subst (λ a. Made s.tree (tree_after s a) choice.ino) (sym a)
-            (made_touched s.now (touches s.room s.tree (effect_with choice.ino).change) s.tree (swept (changed s.tree (effect_with choice.ino).change) processes) choice.ino (subst (λ ch. Made s.tree (swept (changed s.tree ch) processes) choice.ino) (sym change) stays))
+            (made_touched s.now (touches s.room s.tree (effect_with choice.ino).change) s.tree (swept (changed s.tree (effect_with choice.ino).change) (users processes s.openings)) choice.ino (subst (λ ch. Made s.tree (swept (changed s.tree ch) (users processes s.openings)) choice.ino) (sym change) stays))
             )
       ]
 
@@ -193,7 +195,7 @@ made_same s t s' t' n m before now one two = elim (cases_eq n m) [
 ]
 
 -- a step with another choice that comes to the same
-step_by : (s s' : State) (e : Event) (reply : Reply) (c d : Choice) → ((k : ℕ) → HasNewPid s e k) → after s e c ≡ after s e d → c.free ≡ d.free
+step_by : (s s' : State) (e : Event) (reply : Reply) (c d : Choice) → ((k : ℕ) → HasNewPid s e k × HasNewHandle s e k) → after s e c ≡ after s e d → c.free ≡ d.free
     → StepBy c s e reply s' → StepBy d s e reply s'
 step_by s s' e reply c d pids same free (early on r a b z) = early on r a b z
 step_by s s' e reply c d pids same free (late on r a l b z) = late on r a l b z
@@ -204,16 +206,17 @@ step_by s s' e reply c d pids same free (done act answered now) =
       late = act.late;
       allowed = record {
         number = subst (λ a. HasNewNumber s a.change) same act.allowed.number;
-        pid = pids d.pid;
+        pid = (pids d.pid).0;
+        handle = (pids d.handle).1;
         free = subst (λ f. MayBeFree s.room (tree_after s (after s e d)) f) free (subst (λ a. MayBeFree s.room (tree_after s a) c.free) same act.allowed.free);
       };
     }) (answered ∙ ap (λ a. a.reply) same) (now ∙ ap (λ a. state_after s a c.free) same ∙ ap (state_after s (after s e d)) free)
 
--- the process makes no other
-no_pid : (pid : ℕ) (s : State) (e : Event) → IsOf pid e → (k : ℕ) → HasNewPid s e k
-no_pid pid s (Calls by call) of k = tt
-no_pid pid s (Fsync by fd) of k = tt
-no_pid pid s (Exit by) of k = tt
+-- the process makes no other, and gets no handle
+no_pid : (pid : ℕ) (s : State) (e : Event) → IsOf pid e → (k : ℕ) → HasNewPid s e k × HasNewHandle s e k
+no_pid pid s (Calls by call) of k = (tt, tt)
+no_pid pid s (Fsync by fd) of k = (tt, tt)
+no_pid pid s (Exit by) of k = (tt, tt)
 no_pid pid s _ of k = absurd of
 
 module _ (pid : ℕ) (p : Process) (s t s' t' : State) (c d : Choice) (reply reply' : Reply) (is : IsState s) (js : IsState t)
@@ -267,7 +270,7 @@ module _ (pid : ℕ) (p : Process) (s t s' t' : State) (c d : Choice) (reply rep
   acts_alike (Exit by) fits of free act now x act' now' y = by_second (Exit by) fits of free x y refl
   acts_alike (Spawn cred) fits of free act now x act' now' y = absurd of
   acts_alike (CallAt v call) fits of free act now x act' now' y = absurd of
-  acts_alike (Enter by directory second) fits of free act now x act' now' y = absurd of
+  acts_alike (CallBy handle handle_call) fits of free act now x act' now' y = absurd of
   acts_alike (Stamp n atime mtime ctime) fits of free act now x act' now' y = absurd of
   acts_alike (Clock time) fits of free act now x act' now' y = absurd of
   acts_alike Sync fits of free act now x act' now' y = absurd of

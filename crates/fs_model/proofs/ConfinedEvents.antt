@@ -4,10 +4,11 @@ use Rattle.std.proofs.Common.{refl, sym, ap, ◌∙◌, subst}
 use Rattle.std.specs.Ordering.{nat_cmp}
 use Rattle.fs_model.specs.declared.call.Call.{Call}
 use Rattle.fs_model.specs.declared.event.Event.{Event}
+use Rattle.fs_cred.specs.declared.refusal.Refusal.{Refusal}
 use Rattle.fs_model.specs.declared.reply.Reply.{Reply}
 use Rattle.fs_model.specs.declared.reply.Reply.TheVariants.{Refused}
 use Rattle.fs_layout.specs.Maps.{get}
-use Rattle.fs_model.specs.Processes.{Process, ProcessTable}
+use Rattle.fs_model.specs.Processes.{Process, ProcessTable, users}
 use Rattle.fs_model.specs.TreeChanges.{swept}
 use Rattle.fs_model.specs.States.{State, IsState}
 use Rattle.fs_model.specs.Alike.{seen_by, AreAlike}
@@ -19,12 +20,12 @@ use Rattle.fs_layout.proofs.FirstEntries.{ties}
 use Rattle.fs_model.proofs.SeenTrees.{swept-seen}
 use Rattle.std.specs.Prelude.{true, not, is_some}
 use Rattle.std.specs.Ordering.{eq_by_cmp}
-use Rattle.fs_model.specs.declared.event.Event.TheVariants.{Spawn, Exit, Call as Calls, CallAt, Enter, Stamp, Clock, Fsync, Sync, Statfs, Arm, Restart}
+use Rattle.fs_model.specs.declared.event.Event.TheVariants.{Spawn, Exit, Call as Calls, CallAt, CallBy, Stamp, Clock, Fsync, Sync, Statfs, Arm, Restart}
 use Rattle.fs_model.specs.declared.reply.Reply.TheVariants.{Done}
 use Rattle.fs_layout.specs.Maps.{without, IsMap}
 use Rattle.fs_model.specs.Steps.{after_call, unchanged, firm_refusal, other_refusal, demand_of}
 use Rattle.fs_model.proofs.Swept.{kept, get-filter}
-use Rattle.fs_model.proofs.ConfinedSteps.{ComesFromSeen, Confines, effect_of, left_by, IsConfinedIn, same_reply, same_here, left_alike, same_processes, here_alike, same_seen}
+use Rattle.fs_model.proofs.ConfinedSteps.{ComesFromSeen, Confines, as_open, effect_of, left_by, IsConfinedIn, same_reply, same_here, left_alike, same_processes, here_alike, same_seen}
 use Rattle.fs_model.proofs.SeenScenes.{scene_of-seen}
 use Rattle.fs_model.proofs.StepsDemands.{early_met, demands_met}
 use Rattle.fs_model.proofs.VeiledRefusals.{same_firm, same_other}
@@ -47,35 +48,34 @@ ConfinesEvent e =
     → AreAlike pid s t → StepBy choice s e reply s' → StepBy choice t e reply' t'
     → AnswerAlike pid reply reply' s' t'
 
-module _ (pid : ℕ) (s t : State) where
-  moved : (s' t' : State) (reply reply' a b : Reply) (u v : State) → reply ≡ a → reply' ≡ b → s' ≡ u → t' ≡ v → AnswerAlike pid a b u v → AnswerAlike pid reply reply' s' t'
-  moved s' t' reply reply' a b u v e f g h is =
-      subst (λ x. AnswerAlike pid x reply' s' t') (sym e)
-      (subst (λ x. AnswerAlike pid a x s' t') (sym f)
-      (subst (λ x. AnswerAlike pid a b x t') (sym g)
-      (subst (λ x. AnswerAlike pid a b u x) (sym h) is)))
+moved : (R : Reply → Reply → State → State → Type 0) (s' t' : State) (reply reply' a b : Reply) (u v : State)
+    → reply ≡ a → reply' ≡ b → s' ≡ u → t' ≡ v → R a b u v → R reply reply' s' t'
+moved R s' t' reply reply' a b u v e f g h is =
+    subst (λ x. R x reply' s' t') (sym e) (subst (λ x. R a x s' t') (sym f) (subst (λ x. R a b x t') (sym g) (subst (λ x. R a b u x) (sym h) is)))
+
+-- two steps that are refused alike, or both act
+pub step_cases : (R : Reply → Reply → State → State → Type 0) (e : Event) (s t s' t' : State) (choice : Choice) (reply reply' : Reply)
+    → firm_refusal s e ≡ firm_refusal t e → other_refusal s e ≡ other_refusal t e → ((r : Refusal) → R (Refused r) (Refused r) s t)
+    → (Acts s e choice → Acts t e choice
+    → R (after s e choice).reply (after t e choice).reply (state_after s (after s e choice) choice.free) (state_after t (after t e choice) choice.free))
+    → StepBy choice s e reply s' → StepBy choice t e reply' t' → R reply reply' s' t'
+step_cases R e s t s' t' choice reply reply' firm other refused acts (early on r a b c) (early on' r' a' b' c') =
+    moved R s' t' reply reply' _ _ _ _ b (b' ∙ ap Refused (let same : r' ≡ r = cc in same)) c c' (refused r)
+step_cases R e s t s' t' choice reply reply' firm other refused acts (early on r a b c) (late on' r' d a' b' c') = absurd cc
+step_cases R e s t s' t' choice reply reply' firm other refused acts (early on r a b c) (done act b' c') = absurd (let d = act.early in cc)
+step_cases R e s t s' t' choice reply reply' firm other refused acts (late on r d a b c) (early on' r' a' b' c') = absurd cc
+step_cases R e s t s' t' choice reply reply' firm other refused acts (late on r d a b c) (late on' r' d' a' b' c') =
+    moved R s' t' reply reply' _ _ _ _ b (b' ∙ ap Refused (let same : r' ≡ r = cc in same)) c c' (refused r)
+step_cases R e s t s' t' choice reply reply' firm other refused acts (late on r d a b c) (done act b' c') = absurd (let f = act.late in cc)
+step_cases R e s t s' t' choice reply reply' firm other refused acts (done act b c) (early on' r' a' b' c') = absurd (let f = act.early in cc)
+step_cases R e s t s' t' choice reply reply' firm other refused acts (done act b c) (late on' r' d' a' b' c') = absurd (let f = act.late in cc)
+step_cases R e s t s' t' choice reply reply' firm other refused acts (done act b c) (done act' b' c') = moved R s' t' reply reply' _ _ _ _ b b' c c' (acts act act')
 
 pub confines_event : (e : Event) → ActsAlike e → ConfinesEvent e
-confines_event e acts pid p s t s' t' choice reply reply' is js here confined fits of alike (early on r a b c) (early on' r' a' b' c') =
-    moved pid s t s' t' reply reply' (Refused r) (Refused r') s t b b' c c'
-    (record { replies = (let k = same_firm pid s t e alike in cc); process = here_alike pid s t alike; alike = λ _. alike })
-confines_event e acts pid p s t s' t' choice reply reply' is js here confined fits of alike (early on r a b c) (late on' r' d a' b' c') =
-    absurd (let k = same_firm pid s t e alike in cc)
-confines_event e acts pid p s t s' t' choice reply reply' is js here confined fits of alike (early on r a b c) (done act b' c') =
-    absurd (let k = same_firm pid s t e alike in let d = act.early in cc)
-confines_event e acts pid p s t s' t' choice reply reply' is js here confined fits of alike (late on r d a b c) (early on' r' a' b' c') =
-    absurd (let k = same_firm pid s t e alike in cc)
-confines_event e acts pid p s t s' t' choice reply reply' is js here confined fits of alike (late on r d a b c) (late on' r' d' a' b' c') =
-    moved pid s t s' t' reply reply' (Refused r) (Refused r') s t b b' c c'
-    (record { replies = (let k = same_other pid s t e alike in cc); process = here_alike pid s t alike; alike = λ _. alike })
-confines_event e acts pid p s t s' t' choice reply reply' is js here confined fits of alike (late on r d a b c) (done act b' c') =
-    absurd (let k = same_other pid s t e alike in let f = act.late in cc)
-confines_event e acts pid p s t s' t' choice reply reply' is js here confined fits of alike (done act b c) (early on' r' a' b' c') =
-    absurd (let k = same_firm pid s t e alike in let f = act.early in cc)
-confines_event e acts pid p s t s' t' choice reply reply' is js here confined fits of alike (done act b c) (late on' r' d' a' b' c') =
-    absurd (let k = same_other pid s t e alike in let f = act.late in cc)
-confines_event e acts pid p s t s' t' choice reply reply' is js here confined fits of alike (done act b c) (done act' b' c') =
-    moved pid s t s' t' reply reply' _ _ _ _ b b' c c' (acts pid p s t choice is js here confined fits of alike act act')
+confines_event e acts pid p s t s' t' choice reply reply' is js here confined fits of alike =
+    step_cases (AnswerAlike pid) e s t s' t' choice reply reply' (same_firm pid s t e alike) (same_other pid s t e alike)
+    (λ r. record { replies = refl; process = here_alike pid s t alike; alike = λ _. alike })
+    (λ act act'. acts pid p s t choice is js here confined fits of alike act act')
 
 -- ---- a call
 
@@ -94,7 +94,7 @@ after_is s pid p call choice here = ap (after_call s pid (row_of call) choice.in
 
 call_confined : (pid : ℕ) (p : Process) (call : Call) (number free : ℕ) (u : State) → Confines call → IsState u → IsConfined p.cred
     → early_refusal p (row_of call) ≡ None → late_refusal u p (row_of call) ≡ None
-    → IsConfinedIn (Some pid) p (effect_of p (row_of call) number) free u
+    → IsConfinedIn (Some pid) as_open p (effect_of p (row_of call) number) free u
 call_confined pid p call number free u conf is confined asked met =
     let row = row_of call in
     subst (λ c. ComesFromSeen p u (row.effect c number) (row.effect (scene_of u p row) number)) (sym (scene_of-seen p p u row))
@@ -114,9 +114,9 @@ call_acts pid call conf p s t choice is js confined act act' here alike =
     let y = call_confined pid p call choice.ino choice.free t conf js confined (firm_is t pid p call there act'.early) (other_is t pid p call there act'.late) in
     let same = same_seen pid p s t alike here in
     subst (λ m. AnswerAlike pid m.reply (after t (Calls pid call) choice).reply (state_after s m choice.free) (state_after t (after t (Calls pid call) choice) choice.free)) (sym a)
-    (subst (λ m. AnswerAlike pid (e s).reply m.reply (left_by (Some pid) p e choice.free s) (state_after t m choice.free)) (sym b)
+    (subst (λ m. AnswerAlike pid (e s).reply m.reply (left_by (Some pid) as_open p e choice.free s) (state_after t m choice.free)) (sym b)
     (record {
-      replies = same_reply (Some pid) p e choice.free s t same x y;
+      replies = same_reply (Some pid) as_open p e choice.free s t same x y;
       process = same_here pid p e choice.free s t same x y;
       alike = λ _. left_alike pid p e choice.free s t same x y act.running act'.running;
     }))
@@ -132,8 +132,8 @@ confines_call by call conf = confines_event (Calls by call) (λ pid p s t choice
 
 swept_state : (p : Process) (u : State) (free : ℕ)
     → seen_by (Some p) (state_after u (unchanged u Done) free)
-    ≡ record (seen_by (Some p) u) { tree = swept (seen_by (Some p) u).tree u.processes; free = free }
-swept_state p u free = ap (λ t. record u { tree = t; free = free }) (sym (swept-seen p u.tree u.processes))
+    ≡ record (seen_by (Some p) u) { tree = swept (seen_by (Some p) u).tree (users u.processes u.openings); free = free }
+swept_state p u free = ap (λ t. record u { tree = t; free = free }) (sym (swept-seen p u.tree (users u.processes u.openings)))
 
 swept_alike : (pid : ℕ) (p : Process) (s t : State) (free : ℕ) → IsFalse s.halted → IsFalse t.halted → get nat_cmp s.processes pid ≡ Some p → AreAlike pid s t
     → AreAlike pid (state_after s (unchanged s Done) free) (state_after t (unchanged t Done) free)
@@ -145,7 +145,7 @@ swept_alike pid p s t free first second here alike =
       same =
           ap (λ o. seen_by o (state_after s (unchanged s Done) free)) here
           ∙ swept_state p s free
-          ∙ ap {A = State} {B = State} (λ u. record u { tree = swept u.tree u.processes; free = free }) (same_seen pid p s t alike here)
+          ∙ ap {A = State} {B = State} (λ u. record u { tree = swept u.tree (users u.processes u.openings); free = free }) (same_seen pid p s t alike here)
           ∙ sym (swept_state p t free)
           ∙ ap (λ o. seen_by o (state_after t (unchanged t Done) free)) (sym there);
     }
@@ -190,7 +190,7 @@ confined (Fsync by fd) = confines_fsync by fd
 confined (Exit by) = confines_exit by
 confined (Spawn cred) = λ _ _ _ _ _ _ _ _ _ _ _ _ _ _ of. absurd of
 confined (CallAt v call) = λ _ _ _ _ _ _ _ _ _ _ _ _ _ _ of. absurd of
-confined (Enter by directory second) = λ _ _ _ _ _ _ _ _ _ _ _ _ _ _ of. absurd of
+confined (CallBy handle handle_call) = λ _ _ _ _ _ _ _ _ _ _ _ _ _ _ of. absurd of
 confined (Stamp n atime mtime ctime) = λ _ _ _ _ _ _ _ _ _ _ _ _ _ _ of. absurd of
 confined (Clock time) = λ _ _ _ _ _ _ _ _ _ _ _ _ _ _ of. absurd of
 confined Sync = λ _ _ _ _ _ _ _ _ _ _ _ _ _ _ of. absurd of

@@ -1,5 +1,5 @@
 -- Calls that change no tree are confined.
-use Rattle.std.specs.Prelude.{◌≡◌, ℕ, true, if◌then◌else◌, List, [], ◌∷◌, Some}
+use Rattle.std.specs.Prelude.{◌≡◌, ℕ, true, if◌then◌else◌, List, [], ◌∷◌, Some, IsTrue}
 use Rattle.std.proofs.Common.{refl, sym, ap, ◌∙◌}
 use Rattle.posix_acl.specs.declared.entry.Perms.{Perms}
 use Rattle.fs_model.specs.declared.call.AclType.{AclType}
@@ -14,8 +14,9 @@ use Rattle.fs_model.specs.Births.{the_node}
 use Rattle.fs_model.specs.TreeChanges.{Same, changed, touches}
 use Rattle.fs_model.specs.Alike.{sees_into, tree_seen}
 use Rattle.fs_model.specs.Rows.{row_of}
+use Rattle.fs_model.specs.Actors.{is_look}
 use Rattle.fs_model.specs.Scenes.{Scene, Row, found_ino, node_found, body_found}
-use Rattle.fs_model.specs.DescriptorCalls.{shown}
+use Rattle.fs_model.specs.DescriptorCalls.{shown, readdir_row}
 use Rattle.fs_model.specs.AttributeCalls.{granted_by, acl_shown}
 use Rattle.fs_model.proofs.Veils.{veil, accessed-blotted, target_in-blotted, names_in-blotted, directory_in-blotted, parent-veil}
 use Rattle.fs_model.proofs.VeiledScenes.{veiled_scene, veiled_state-seen, the_node-veil, names_of-veil, type_of-blotted, shown_mode-blotted, shown_size-blotted, acl_in-blotted, default_in-blotted}
@@ -95,13 +96,23 @@ looks row number same stays reply = record {
 pub look_at : (call : Call) → ((new : ℕ) → IsLook (row_of call) new) → Confines call
 look_at call is c new _ _ _ _ = look_confined c (row_of call) new (is new)
 
+-- each look of somebody
+pub each_look : (call : Call) → IsTrue (is_look call) → (new : ℕ) → IsLook (row_of call) new
+unfolding row_of
+each_look (Stat path) is new = looks (row_of (Stat path)) new (λ c. refl) (λ c. refl) (λ c. ap Shown (shown-veil c (found_ino c.first)))
+each_look (Lstat path) is new = looks (row_of (Lstat path)) new (λ c. refl) (λ c. refl) (λ c. ap Shown (shown-veil c (found_ino c.first)))
+each_look (Access path want) is new = looks (row_of (Access path want)) new (λ c. refl) (λ c. refl) (λ c. granted-veil c want)
+each_look (GetAcl path which) is new = looks (row_of (GetAcl path which)) new (λ c. refl) (λ c. refl) (λ c. ap Acl (acl-veil c which))
+each_look (Readlink path) is new = looks (row_of (Readlink path)) new (λ c. refl) (λ c. refl) (λ c. ap Target (target-veil c))
+each_look call is new = absurd cc
+
 pub stat_confined : (path : List ℕ) → Confines (Stat path)
 unfolding row_of
-stat_confined path = look_at (Stat path) (λ new. looks (row_of (Stat path)) new (λ c. refl) (λ c. refl) (λ c. ap Shown (shown-veil c (found_ino c.first))))
+stat_confined path = look_at (Stat path) (each_look (Stat path) refl)
 
 pub lstat_confined : (path : List ℕ) → Confines (Lstat path)
 unfolding row_of
-lstat_confined path = look_at (Lstat path) (λ new. looks (row_of (Lstat path)) new (λ c. refl) (λ c. refl) (λ c. ap Shown (shown-veil c (found_ino c.first))))
+lstat_confined path = look_at (Lstat path) (each_look (Lstat path) refl)
 
 pub fstat_confined : (fd : ℕ) → Confines (Fstat fd)
 unfolding row_of
@@ -109,22 +120,26 @@ fstat_confined fd = look_at (Fstat fd) (λ new. looks (row_of (Fstat fd)) new (�
 
 pub access_confined : (path : List ℕ) (want : Perms) → Confines (Access path want)
 unfolding row_of
-access_confined path want = look_at (Access path want) (λ new. looks (row_of (Access path want)) new (λ c. refl) (λ c. refl) (λ c. granted-veil c want))
+access_confined path want = look_at (Access path want) (each_look (Access path want) refl)
 
 pub get_acl_confined : (path : List ℕ) (which : AclType) → Confines (GetAcl path which)
 unfolding row_of
-get_acl_confined path which = look_at (GetAcl path which) (λ new. looks (row_of (GetAcl path which)) new (λ c. refl) (λ c. refl) (λ c. ap Acl (acl-veil c which)))
+get_acl_confined path which = look_at (GetAcl path which) (each_look (GetAcl path which) refl)
 
 pub readlink_confined : (path : List ℕ) → Confines (Readlink path)
 unfolding row_of
-readlink_confined path = look_at (Readlink path) (λ new. looks (row_of (Readlink path)) new (λ c. refl) (λ c. refl) (λ c. ap Target (target-veil c)))
+readlink_confined path = look_at (Readlink path) (each_look (Readlink path) refl)
+
+-- the names that are answered depend on no byte
+pub names-veil : (c : Scene) (fd new : ℕ) → ((readdir_row fd).effect (veiled_scene c) new).reply ≡ ((readdir_row fd).effect c new).reply
+names-veil c fd new =
+    let n = (the_descriptor c.process fd).ino in
+    ap (λ up. Names ((46 ∷ [], n) ∷ (46 ∷ 46 ∷ [], up) ∷ names_of_body (the_node (veil c.state.tree) n).body)) (parent-veil c.state.tree n)
+    ∙ ap (λ names. Names ((46 ∷ [], n) ∷ (46 ∷ 46 ∷ [], parent c.state.tree n) ∷ names)) (listed-veil c n)
 
 pub readdir_confined : (fd : ℕ) → Confines (Readdir fd)
 unfolding row_of
-readdir_confined fd = look_at (Readdir fd) (λ new. looks (row_of (Readdir fd)) new (λ c. refl) (λ c. refl) (λ c.
-    let n = (the_descriptor c.process fd).ino in
-    ap (λ up. Names ((46 ∷ [], n) ∷ (46 ∷ 46 ∷ [], up) ∷ names_of_body (the_node (veil c.state.tree) n).body)) (parent-veil c.state.tree n)
-    ∙ ap (λ names. Names ((46 ∷ [], n) ∷ (46 ∷ 46 ∷ [], parent c.state.tree n) ∷ names)) (listed-veil c n)))
+readdir_confined fd = look_at (Readdir fd) (λ new. looks (row_of (Readdir fd)) new (λ c. refl) (λ c. refl) (λ c. names-veil c fd new))
 
 pub chdir_confined : (path : List ℕ) → Confines (Chdir path)
 unfolding row_of

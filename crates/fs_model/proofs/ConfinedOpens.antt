@@ -21,8 +21,10 @@ use Rattle.fs_model.specs.TreeChanges.{Change, Same, Rewrite, Make, changed, tou
 use Rattle.fs_model.specs.Alike.{may_read, sees_into, node_seen, tree_seen}
 use Rattle.fs_model.specs.Demands.{Demand, perms, permission_of, accessed_at, decided}
 use Rattle.fs_model.specs.Rows.{row_of}
-use Rattle.fs_model.specs.Scenes.{is_found, found_ino, dir_node}
-use Rattle.fs_model.specs.OpenCall.{open_found_demands, open_new_demands, open_process}
+use Rattle.fs_model.specs.States.{IsState}
+use Rattle.fs_model.specs.Confinement.{IsConfined}
+use Rattle.fs_model.specs.Scenes.{Scene, is_found, found_ino, dir_node}
+use Rattle.fs_model.specs.OpenCall.{open_found_demands, open_new_demands, open_demands, open_process, open_row}
 use Rattle.fs_model.proofs.Swept.{at_first, at_rest}
 use Rattle.fs_model.proofs.StepsNaming.{at_it}
 use Rattle.fs_model.proofs.StepsProcesses.{in_with_entry}
@@ -30,7 +32,7 @@ use Rattle.fs_model.proofs.StepsDemands.{AreMet}
 use Rattle.fs_model.proofs.ReadsLess.{reads_less}
 use Rattle.fs_model.proofs.Veils.{veiled}
 use Rattle.fs_model.proofs.SeenTrees.{SeesNoMore, tree_seen-less, the_node-seen}
-use Rattle.fs_model.proofs.ConfinedSteps.{Confines}
+use Rattle.fs_model.proofs.ConfinedSteps.{IsConfinedAt, Confines}
 use Rattle.fs_model.proofs.ConfinedLooks.{by_veil}
 use Rattle.fs_model.proofs.ConfinedReads.{is_for, any, any-put, less_by, either}
 use Rattle.fs_model.proofs.ConfinedRewrites.{byted_seen, rewritten_seen, owner_sees}
@@ -165,9 +167,10 @@ opened_tree : (p : Process) (flags : Flags) (t : Tree) → IsMap nat_cmp t → (
 opened_tree p flags t is new None dir_ino name node own bare reads empties = new_tree p flags new t is node own bare dir_ino name
 opened_tree p flags t is new (Some n) dir_ino name node own bare reads empties = found_tree p flags n t is (reads refl) empties
 
-pub open_confined : (path : List ℕ) (flags : Flags) (mode : ℕ) → Confines (Open path flags mode)
-unfolding row_of
-open_confined path flags mode c new is confined asked met =
+-- however much is open already
+pub open_confined_at : (path : List ℕ) (flags : Flags) (mode : ℕ) (c : Scene) (new : ℕ) → IsState c.state → IsConfined c.process.cred
+    → AreMet (open_demands flags c) → IsConfinedAt c (open_row path flags mode) new
+open_confined_at path flags mode c new is confined met =
     let u = c.state in
     let p = c.process in
     let f = c.first in
@@ -188,3 +191,7 @@ open_confined path flags mode c new is confined asked met =
           ∙ ap (λ x. tree_seen q (changed seen (open_to (is_found f) empties f.dir_ino f.name new (born_file p.cred p.umask mode (the_node u.tree f.dir_ino)) (found_ino f) x))) (the_node-seen p u.tree (found_ino f))
           ∙ opened_tree p flags u.tree is.tree.numbers new f.ino f.dir_ino f.name (born_file p.cred p.umask mode (the_node u.tree f.dir_ino)) refl refl reads empties;
     }
+
+pub open_confined : (path : List ℕ) (flags : Flags) (mode : ℕ) → Confines (Open path flags mode)
+unfolding row_of
+open_confined path flags mode c new is confined asked met = open_confined_at path flags mode c new is confined met

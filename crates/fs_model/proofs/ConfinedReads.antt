@@ -10,20 +10,20 @@ use Rattle.std.specs.Ordering.{nat_cmp, eq_by_cmp}
 use Rattle.std.specs.FinMap.Entries.{by_order}
 use Rattle.fs_cred.specs.declared.errno.Errno.TheVariants.{EBADF}
 use Rattle.fs_model.specs.declared.call.Whence.{Whence}
-use Rattle.fs_model.specs.declared.call.Call.TheVariants.{Read, Lseek, Close}
+use Rattle.fs_model.specs.declared.call.Call.TheVariants.{Lseek, Close}
 use Rattle.fs_model.specs.declared.reply.Reply.TheVariants.{Data, At}
-use Rattle.fs_model.specs.Limits.{run_limit}
 use Rattle.fs_layout.specs.Maps.{get, with_entry, without}
 use Rattle.fs_model.specs.Nodes.{Node, bytes_in, accessed}
 use Rattle.fs_model.specs.Processes.{Process, Descriptor, no_descriptor, descriptor, the_descriptor, with_offset}
 use Rattle.fs_model.specs.Births.{the_node}
 use Rattle.fs_model.specs.Alike.{sees_into, may_read, seen_by}
+use Rattle.fs_model.specs.DescriptorCalls.{read_within}
 use Rattle.fs_model.specs.Rows.{row_of}
 use Rattle.fs_model.proofs.Veils.{veiled}
 use Rattle.fs_model.proofs.VeiledDemands.{sought-veil}
 use Rattle.fs_model.proofs.StepsDemands.{unrefused, is_read_here}
 use Rattle.fs_model.proofs.SeenTrees.{the_node-seen, tree_seen-less, sees_no_more}
-use Rattle.fs_model.proofs.ConfinedSteps.{Confines}
+use Rattle.fs_model.proofs.ConfinedSteps.{Confines, ConfinesRow}
 use Rattle.fs_model.proofs.ConfinedLooks.{look_at}
 
 module _ (f : Descriptor → Bool) where
@@ -137,9 +137,8 @@ open_sees p fd node r =
     last false true x h = refl
     last false false x h = h
 
-pub read_confined : (fd len : ℕ) → Confines (Read fd len)
-unfolding row_of
-read_confined fd len c new is confined asked met =
+pub read_confined : (most fd len : ℕ) → ConfinesRow (read_within most fd len)
+read_confined most fd len c new is confined asked met =
     let u = c.state in
     let p = c.process in
     let n = (the_descriptor p fd).ino in
@@ -148,10 +147,10 @@ read_confined fd len c new is confined asked met =
     let same : the_node (seen_by (Some p) u).tree n ≡ node = the_node-seen p u.tree n ∙ ap (λ b. cond b node (veiled node)) (open_sees p fd node r) in
     let offset = (the_descriptor p fd).offset in
     record {
-      process = ap (λ x. with_offset p fd (offset + length (take (min len run_limit) (drop offset (bytes_in x.body))))) same;
-      reply = ap (λ x. Data (take (min len run_limit) (drop offset (bytes_in x.body)))) same;
+      process = ap (λ x. with_offset p fd (offset + length (take (min len most) (drop offset (bytes_in x.body))))) same;
+      reply = ap (λ x. Data (take (min len most) (drop offset (bytes_in x.body)))) same;
       moved = refl;
       tree =
-          let to = offset + length (take (min len run_limit) (drop offset (bytes_in node.body))) in
+          let to = offset + length (take (min len most) (drop offset (bytes_in node.body))) in
           tree_seen-less p (with_offset p fd to) u.tree (sees_no_more p (with_offset p fd to) (λ m x. offset_less p fd to m x) u.tree);
     }

@@ -3,7 +3,7 @@ use Rattle.fs_model.specs.declared.reply.Stamps.{Stamps}
 use Rattle.std.specs.Prelude.{◌≡◌, ℕ, ◌+◌, ◌==◌, min, Bool, true, false, ◌||◌, ◌&&◌, cond, List, [], ◌∷◌, length, take, replicate, Option, None, IsFalse}
 use Rattle.std.proofs.Common.{refl, sym, ap, ◌∙◌, arith}
 use Rattle.std.proofs.lemmas.List.{length-replicate}
-use Rattle.fs_model.specs.declared.call.Call.TheVariants.{Truncate, Ftruncate, Write, Chmod, Chown, SetAcl}
+use Rattle.fs_model.specs.declared.call.Call.TheVariants.{Truncate, Ftruncate, Chmod, Chown, SetAcl}
 use Rattle.fs_model.specs.declared.reply.Reply.TheVariants.{Wrote}
 use Rattle.std.proofs.lemmas.Bool.Decides.{nat_tests}
 use Rattle.std.specs.List.{list_any}
@@ -17,7 +17,6 @@ use Rattle.fs_cred.specs.Capabilities.{cap_chown, cap_fowner}
 use Rattle.fs_cred.specs.Credentials.{is_capable}
 use Rattle.fs_cred.specs.Ownership.{allowed_if, may_own, owns_or_may_chown}
 use Rattle.fs_model.specs.declared.call.AclType.{AclType}
-use Rattle.fs_model.specs.Limits.{write_limit}
 use Rattle.fs_model.specs.Demands.{allowed_by}
 use Rattle.fs_model.specs.AttributeCalls.{moded, owned, with_set_acl}
 use Rattle.fs_model.proofs.VeiledDemands.{write_offset-veil}
@@ -30,12 +29,12 @@ use Rattle.fs_model.specs.Alike.{may_read, sees_into, node_seen, tree_seen, blot
 use Rattle.fs_model.specs.Confinement.{IsConfined}
 use Rattle.fs_model.specs.Rows.{row_of}
 use Rattle.fs_layout.specs.Bytes.{resized, overwritten}
-use Rattle.fs_model.specs.DescriptorCalls.{resized_node, written, write_offset}
+use Rattle.fs_model.specs.DescriptorCalls.{resized_node, written, write_offset, write_within}
 use Rattle.fs_model.specs.Scenes.{Scene, found_ino, node_found}
 use Rattle.fs_model.proofs.StepsBodies.{length-resized, length-overwritten_all}
 use Rattle.fs_model.proofs.Veils.{veiled}
 use Rattle.fs_model.proofs.SeenTrees.{sees-veiled, the_node-seen, with_node-seen, tree_seen-less, SeesNoMore, sees_no_more}
-use Rattle.fs_model.proofs.ConfinedSteps.{seen_scene, Confines}
+use Rattle.fs_model.proofs.ConfinedSteps.{seen_scene, Confines, ConfinesRow}
 use Rattle.fs_model.proofs.ConfinedLooks.{by_veil}
 
 -- a node set in what the process sees, and in the tree
@@ -130,15 +129,14 @@ even_overwritten offset new bytes =
       length-replicate {A = ℕ} (length bytes) 0,
     )
 
-pub write_confined : (fd : ℕ) (bytes : List ℕ) → Confines (Write fd bytes)
-unfolding row_of
-write_confined fd [] c new is confined asked met = record {
+pub write_confined : (most fd : ℕ) (bytes : List ℕ) → ConfinesRow (write_within most fd bytes)
+write_confined most fd [] c new is confined asked met = record {
   process = refl;
   reply = refl;
   moved = refl;
   tree = tree_seen-less c.process c.process c.state.tree (sees_no_more c.process c.process (λ n node e. e) c.state.tree);
 }
-write_confined fd (b ∷ bs) c new is confined asked met =
+write_confined most fd (b ∷ bs) c new is confined asked met =
     let u = c.state in
     let p = c.process in
     let bytes = b ∷ bs in
@@ -147,14 +145,14 @@ write_confined fd (b ∷ bs) c new is confined asked met =
     let offset = write_offset c fd in
     let same : write_offset (seen_scene c) fd ≡ offset = by_veil (λ c. write_offset c fd) (λ c. write_offset-veil c fd) c in
     let limit = u.room.file_limit in
-    let text = take (min (length bytes) (min write_limit (limit - offset))) bytes in
-    let q = with_offset p fd (offset + min (length bytes) (min write_limit (limit - offset))) in
+    let text = take (min (length bytes) (min most (limit - offset))) bytes in
+    let q = with_offset p fd (offset + min (length bytes) (min most (limit - offset))) in
     record {
-      process = ap (λ k. with_offset p fd (k + min (length bytes) (min write_limit (limit - k)))) same;
-      reply = ap (λ k. Wrote (min (length bytes) (min write_limit (limit - k)))) same;
+      process = ap (λ k. with_offset p fd (k + min (length bytes) (min most (limit - k)))) same;
+      reply = ap (λ k. Wrote (min (length bytes) (min most (limit - k)))) same;
       moved = refl;
       tree =
-          ap (λ k. tree_seen q (with_node (tree_seen p u.tree) n (written (the_node (tree_seen p u.tree) n) k (take (min (length bytes) (min write_limit (limit - k))) bytes)))) same
+          ap (λ k. tree_seen q (with_node (tree_seen p u.tree) n (written (the_node (tree_seen p u.tree) n) k (take (min (length bytes) (min most (limit - k))) bytes)))) same
           ∙ ap (λ y. tree_seen q (with_node (tree_seen p u.tree) n (written y offset text))) (the_node-seen p u.tree n)
           ∙ rewritten_seen p q u.tree n (written (node_seen p n x) offset text) (written x offset text) (sees_no_more p q (λ n node. offset_less p fd _ n node) u.tree)
           (byted_seen (λ old. overwritten old offset text) (even_overwritten offset text) p q n x (offset_less p fd _ n x));

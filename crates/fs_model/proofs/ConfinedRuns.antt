@@ -8,7 +8,7 @@ use Rattle.fs_cred.specs.declared.refusal.Refusal.TheVariants.{Failed}
 use Rattle.fs_layout.specs.Maps.{get}
 use Rattle.fs_model.specs.declared.call.Call.{Call}
 use Rattle.fs_model.specs.declared.event.Event.{Event}
-use Rattle.fs_model.specs.declared.event.Event.TheVariants.{Spawn, Exit, Call as Calls, CallAt, Enter, Stamp, Clock, Fsync, Sync, Statfs, Arm, Restart}
+use Rattle.fs_model.specs.declared.event.Event.TheVariants.{Spawn, Exit, Call as Calls, CallAt, CallBy, Stamp, Clock, Fsync, Sync, Statfs, Arm, Restart}
 use Rattle.fs_model.specs.declared.reply.Reply.{Reply}
 use Rattle.fs_model.specs.declared.reply.Reply.TheVariants.{Refused}
 use Rattle.fs_model.specs.Processes.{Process}
@@ -48,7 +48,7 @@ module _ (pid : ℕ) (p q : Process) (s : State) (here : get nat_cmp s.processes
   acted_cred is (Exit by) choice of there = absurd (let none = gone_by s.processes by pid is.pids of in let both : None ≡ Some q = sym none ∙ there in cc)
   acted_cred is (Spawn cred) choice of there = absurd of
   acted_cred is (CallAt v call) choice of there = absurd of
-  acted_cred is (Enter by directory second) choice of there = absurd of
+  acted_cred is (CallBy handle handle_call) choice of there = absurd of
   acted_cred is (Stamp n atime mtime ctime) choice of there = absurd of
   acted_cred is (Clock time) choice of there = absurd of
   acted_cred is Sync choice of there = absurd of
@@ -105,7 +105,7 @@ machine_of pid (Fsync by fd) of = refl
 machine_of pid (Exit by) of = refl
 machine_of pid (Spawn cred) of = absurd of
 machine_of pid (CallAt v call) of = absurd of
-machine_of pid (Enter by directory second) of = absurd of
+machine_of pid (CallBy handle handle_call) of = absurd of
 machine_of pid (Stamp n atime mtime ctime) of = absurd of
 machine_of pid (Clock time) of = absurd of
 machine_of pid Sync of = absurd of

@@ -5,7 +5,7 @@ use Rattle.std.proofs.Common.{refl, sym, ap, ◌∙◌}
 use Rattle.std.specs.Ordering.{nat_cmp}
 use Rattle.fs_model.specs.declared.call.Call.{Call}
 use Rattle.fs_layout.specs.Maps.{get, with_entry}
-use Rattle.fs_model.specs.Processes.{Process, ProcessTable}
+use Rattle.fs_model.specs.Processes.{Process, ProcessTable, Openings, users}
 use Rattle.fs_model.specs.TreeChanges.{changed, touches, touched, swept}
 use Rattle.fs_model.specs.States.{State, IsState}
 use Rattle.fs_model.specs.Alike.{tree_seen, seen_by, AreAlike}
@@ -40,19 +40,27 @@ IsConfinedAt c row number = ComesFromSeen c.process c.state (row.effect (seen_sc
 abbrev pub effect_of : Process → Row → ℕ → State → Effect
 effect_of p row number u = row.effect (scene_of u p row) number
 
--- a call is confined in each scene in which nothing refuses it
+-- a row is confined in each scene in which nothing refuses it
+abbrev pub ConfinesRow : Row → Type 0
+ConfinesRow row =
+    (c : Scene) (number : ℕ) → IsState c.state → IsConfined c.process.cred → AreMet (row.early c.process) → AreMet (row.demands c)
+    → IsConfinedAt c row number
+
 abbrev pub Confines : Call → Type 0
-Confines call =
-    (c : Scene) (number : ℕ) → IsState c.state → IsConfined c.process.cred → AreMet ((row_of call).early c.process) → AreMet ((row_of call).demands c)
-    → IsConfinedAt c (row_of call) number
+Confines call = ConfinesRow (row_of call)
 
 -- ---- what it leaves
 
-module _ (caller : Option ℕ) (p : Process) (effect_in : State → Effect) (free : ℕ) where
+-- what is open then: a process opens nothing for others
+abbrev pub as_open : Process → Openings → Openings
+as_open q openings = openings
+
+module _ (caller : Option ℕ) (opens : Process → Openings → Openings) (p : Process) (effect_in : State → Effect) (free : ℕ) where
   abbrev pub after_by : State → After
   after_by u = record {
     change = (effect_in u).change;
     processes = with_caller u.processes caller (effect_in u).process;
+    openings = opens (effect_in u).process u.openings;
     reply = (effect_in u).reply;
     now = u.now;
   }
@@ -67,14 +75,16 @@ module _ (caller : Option ℕ) (p : Process) (effect_in : State → Effect) (fre
   left_seen u is =
       let q = (effect_in u).process in
       let processes = with_caller u.processes caller q in
+      let openings = opens q u.openings in
+      let all = users processes openings in
       let e = effect_in (seen_by (Some p) u) in
-      ap (λ r. record u { tree = tree_seen q (tree_after (seen_by (Some p) u) (record { change = e.change; processes = with_caller u.processes caller r; reply = e.reply; now = u.now })); processes = with_caller u.processes caller r; free = free }) is.process
-      ∙ ap (λ t. record u { tree = t; processes = processes; free = free })
-      (seen-touched q u.now (touches u.room (tree_seen p u.tree) e.change) (swept (changed (tree_seen p u.tree) e.change) processes)
+      ap (λ r. record u { tree = tree_seen q (tree_after (seen_by (Some p) u) (record { change = e.change; processes = with_caller u.processes caller r; openings = opens r u.openings; reply = e.reply; now = u.now })); processes = with_caller u.processes caller r; openings = opens r u.openings; free = free }) is.process
+      ∙ ap (λ t. record u { tree = t; processes = processes; openings = openings; free = free })
+      (seen-touched q u.now (touches u.room (tree_seen p u.tree) e.change) (swept (changed (tree_seen p u.tree) e.change) all)
       ∙ ap (touched u.now (touches u.room (tree_seen p u.tree) e.change))
-      (sym (swept-seen q (changed (tree_seen p u.tree) e.change) processes) ∙ ap (λ t. swept t processes) is.tree ∙ swept-seen q (changed u.tree (effect_in u).change) processes)
-      ∙ ap (λ es. touched u.now es (tree_seen q (swept (changed u.tree (effect_in u).change) processes))) is.moved
-      ∙ sym (seen-touched q u.now (touches u.room u.tree (effect_in u).change) (swept (changed u.tree (effect_in u).change) processes)))
+      (sym (swept-seen q (changed (tree_seen p u.tree) e.change) all) ∙ ap (λ t. swept t all) is.tree ∙ swept-seen q (changed u.tree (effect_in u).change) all)
+      ∙ ap (λ es. touched u.now es (tree_seen q (swept (changed u.tree (effect_in u).change) all))) is.moved
+      ∙ sym (seen-touched q u.now (touches u.room u.tree (effect_in u).change) (swept (changed u.tree (effect_in u).change) all)))
 
   module _ (s t : State) (same : seen_by (Some p) s ≡ seen_by (Some p) t) (is : IsConfinedIn s) (js : IsConfinedIn t) where
     pub same_process : (effect_in s).process ≡ (effect_in t).process
@@ -96,21 +106,21 @@ pub here_after : (processes : ProcessTable) (pid : ℕ) (q : Process) → get na
 here_after processes pid q = get-with_entry processes pid q pid ∙ ap (λ b. cond b (Some q) (get nat_cmp processes pid)) (ties pid pid refl)
 
 module _ (pid : ℕ) (p : Process) (effect_in : State → Effect) (free : ℕ) (s t : State) (same : seen_by (Some p) s ≡ seen_by (Some p) t)
-    (is : IsConfinedIn (Some pid) p effect_in free s) (js : IsConfinedIn (Some pid) p effect_in free t) where
-  pub same_here : get nat_cmp (left_by (Some pid) p effect_in free s).processes pid ≡ get nat_cmp (left_by (Some pid) p effect_in free t).processes pid
+    (is : IsConfinedIn (Some pid) as_open p effect_in free s) (js : IsConfinedIn (Some pid) as_open p effect_in free t) where
+  pub same_here : get nat_cmp (left_by (Some pid) as_open p effect_in free s).processes pid ≡ get nat_cmp (left_by (Some pid) as_open p effect_in free t).processes pid
   same_here =
       here_after s.processes pid (effect_in s).process
-      ∙ ap Some (same_process (Some pid) p effect_in free s t same is js)
+      ∙ ap Some (same_process (Some pid) as_open p effect_in free s t same is js)
       ∙ sym (here_after t.processes pid (effect_in t).process)
 
-  pub left_alike : IsFalse s.halted → IsFalse t.halted → AreAlike pid (left_by (Some pid) p effect_in free s) (left_by (Some pid) p effect_in free t)
+  pub left_alike : IsFalse s.halted → IsFalse t.halted → AreAlike pid (left_by (Some pid) as_open p effect_in free s) (left_by (Some pid) as_open p effect_in free t)
   left_alike first second = record {
     first_runs = first;
     second_runs = second;
     same =
-        ap (λ o. seen_by o (left_by (Some pid) p effect_in free s)) (here_after s.processes pid (effect_in s).process)
-        ∙ same_left (Some pid) p effect_in free s t same is js
-        ∙ ap (λ o. seen_by o (left_by (Some pid) p effect_in free t)) (sym (here_after t.processes pid (effect_in t).process));
+        ap (λ o. seen_by o (left_by (Some pid) as_open p effect_in free s)) (here_after s.processes pid (effect_in s).process)
+        ∙ same_left (Some pid) as_open p effect_in free s t same is js
+        ∙ ap (λ o. seen_by o (left_by (Some pid) as_open p effect_in free t)) (sym (here_after t.processes pid (effect_in t).process));
   }
 
 -- ---- states that are alike

@@ -10,7 +10,7 @@ use Rattle.fs_model.specs.Steps.{Choice, Answers, is_halted, refuses_early, refu
 use Rattle.fs_model.specs.Confinement.{StepBy, early, late, done, StepsAreBy, StepsBy}
 
 no_choice : Choice
-no_choice = record { ino = 0; pid = 0; free = 0 }
+no_choice = record { ino = 0; pid = 0; handle = 0; free = 0 }
 
 answered_by : (s t : State) (e : Event) (r : Reply) → r ≢ Refused (Failed ENOMEM) → r ≢ Refused (Failed EIO)
     → Answers s e r t → (choice : Choice) × StepBy choice s e r t
@@ -20,7 +20,7 @@ answered_by s t e r no_memory no_disk (refuses_late h x a d b c) = (no_choice, l
 answered_by s t e r no_memory no_disk (acts choice a b c) = (choice, done a b c)
 answered_by s t e r no_memory no_disk (lacks_memory h a b c d) = absurd (no_memory c)
 answered_by s t e r no_memory no_disk (read_fails h a c d) = absurd (no_disk c)
-answered_by s t e r no_memory no_disk (write_fails choice a c processes h d) = absurd (no_disk c)
+answered_by s t e r no_memory no_disk (write_fails choice a c processes openings h d) = absurd (no_disk c)
 
 pub steps_are_by : StepsAreBy
 steps_are_by s t e r step no_memory no_disk = answered_by s t e r no_memory no_disk step.1

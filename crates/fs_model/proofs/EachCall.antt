@@ -1,7 +1,7 @@
 -- What the laws over all calls need of each: the one place in proofs that names every call.
 --     IsLawful        what they need
 --     each_call        each call's case
-use Rattle.std.specs.Prelude.{◌≡◌, ℕ, ◌+◌, nat_le, Bool, true, false, not, ◌&&◌, cond, List, [], ◌∷◌, Option, None, Some, take, if◌then◌else◌, is_some, length, ◌⊎◌, unwrap_or}
+use Rattle.std.specs.Prelude.{◌≡◌, ℕ, ◌+◌, nat_le, min, Bool, true, false, not, ◌&&◌, cond, List, [], ◌∷◌, Option, None, Some, take, if◌then◌else◌, is_some, length, ◌⊎◌, unwrap_or}
 use Rattle.std.proofs.Common.{refl, ap, sym, ◌∙◌, inl, inr}
 use Rattle.posix_acl.specs.declared.entry.Perms.{Perms}
 use Rattle.fs_cred.specs.declared.errno.Errno.TheVariants.{EPERM, ENOENT, EBADF, EBUSY, ENOTDIR, EISDIR, EINVAL, EFBIG, ENOSPC, ENAMETOOLONG, ENOTEMPTY}
@@ -23,6 +23,7 @@ use Rattle.fs_model.specs.DescriptorCalls.{read_demands, read_effect, write_offs
 use Rattle.fs_model.specs.AttributeCalls.{stat_demands, stat_effect, access_demands, access_effect, truncate_demands, truncate_effect, chmod_demands, chmod_effect, chown_demands, chown_effect, get_acl_effect, needs_sector, set_acl_arguments, set_acl_demands, set_acl_effect, chdir_demands, chdir_effect, granted_by}
 use Rattle.fs_model.specs.NameCalls.{mkdir_demands, mkdir_effect, rmdir_demands, takes_name, link_demands, link_effect, symlink_arguments, symlink_demands, symlink_effect, readlink_demands, readlink_effect, unlink_demands}
 use Rattle.fs_model.specs.RenameCall.{rename_demands, rename_effect}
+use Rattle.fs_model.specs.Limits.{move_limit}
 use Rattle.fs_model.specs.Rows.{row_of}
 use Rattle.fs_model.specs.Steps.{HasNewNumber}
 use Rattle.fs_model.specs.declared.reply.Reply.TheVariants.{Wrote, Fd}
@@ -98,18 +99,18 @@ granted_spares : (cred : Credential) (want : Perms) (o : Option AccessNode) → 
 granted_spares cred want None = refl
 granted_spares cred want (Some node) = refl
 
-write_spares : (fd : ℕ) (bytes : List ℕ) (s : Scene) → is_io_error (write_effect fd bytes s).reply ≡ false
-write_spares fd bytes s = go (is_empty bytes)
+pub write_spares : (most fd : ℕ) (bytes : List ℕ) (s : Scene) → is_io_error (write_effect most fd bytes s).reply ≡ false
+write_spares most fd bytes s = go (is_empty bytes)
   where
     go : (b : Bool) → is_io_error (if b then answers s (Wrote 0) else record {
-      change = Rewrite Modified (the_descriptor s.process fd).ino (written (node_open s fd) (write_offset s fd) (take (write_count s fd bytes) bytes));
-      process = with_offset s.process fd (write_offset s fd + write_count s fd bytes);
-      reply = Wrote (write_count s fd bytes);
+      change = Rewrite Modified (the_descriptor s.process fd).ino (written (node_open s fd) (write_offset s fd) (take (write_count most s fd bytes) bytes));
+      process = with_offset s.process fd (write_offset s fd + write_count most s fd bytes);
+      reply = Wrote (write_count most s fd bytes);
     }).reply ≡ false
     go true = refl
     go false = refl
 
-write_keeps : (fd : ℕ) (bytes : List ℕ) (c : Scene) (new : ℕ) → (write_effect fd bytes c).process.cred ≡ c.process.cred
+write_keeps : (fd : ℕ) (bytes : List ℕ) (c : Scene) (new : ℕ) → (write_effect move_limit fd bytes c).process.cred ≡ c.process.cred
 write_keeps fd [] c new = refl
 write_keeps fd (b ∷ bytes) c new = refl
 
@@ -134,23 +135,23 @@ each_call (Open path flags mode) = record {
 }
 each_call (Read fd len) = record {
   paths = λ is. tt;
-  spares = by_fd (is_bad_to_read fd) (read_demands fd) (read_effect fd len) (λ p. refused EBADF _ refl) (λ s. (refused EISDIR _ refl, tt));
+  spares = by_fd (is_bad_to_read fd) (read_demands fd) (read_effect move_limit fd len) (λ p. refused EBADF _ refl) (λ s. (refused EISDIR _ refl, tt));
   replies = λ c new. refl;
   asks = λ c. read_asks c fd;
-  leaves = λ c is who here new met fresh. fits_leave c is who here _ (read_fits c is fd len met.early);
+  leaves = λ c is who here new met fresh. fits_leave c is who here _ (read_fits c is move_limit fd len met.early);
   keeps = λ c new. refl;
   uses = λ c met. inl (λ n m. refl);
-  confines = read_confined fd len;
+  confines = read_confined move_limit fd len;
 }
 each_call (Write fd bytes) = record {
   paths = λ is. tt;
-  spares = by_fd (is_bad_to_write fd) (write_demands fd bytes) (write_effect fd bytes) (λ p. refused EBADF _ refl) (λ s. only (not (is_empty bytes)) (refuse EFBIG (nat_le s.state.room.file_limit (write_offset s fd)) ∷ no_blocks_for (length bytes) s ∷ []) (refused EFBIG _ refl, (refused ENOSPC _ refl, tt)));
-  replies = λ c new. write_spares fd bytes c;
-  asks = λ c. write_asks c fd bytes;
-  leaves = λ c is who here new met fresh. fits_leave c is who here _ (write_fits c is fd bytes met.fits.1 met.early met.demands);
+  spares = by_fd (is_bad_to_write fd) (write_demands move_limit fd bytes) (write_effect move_limit fd bytes) (λ p. refused EBADF _ refl) (λ s. only (not (is_empty bytes)) (refuse EFBIG (nat_le s.state.room.file_limit (write_offset s fd)) ∷ no_blocks_for (min (length bytes) move_limit) s ∷ []) (refused EFBIG _ refl, (refused ENOSPC _ refl, tt)));
+  replies = λ c new. write_spares move_limit fd bytes c;
+  asks = λ c. write_asks c move_limit fd bytes;
+  leaves = λ c is who here new met fresh. fits_leave c is who here _ (write_fits c is move_limit fd bytes met.fits.1 met.early met.demands);
   keeps = write_keeps fd bytes;
   uses = λ c met. inl (write_uses fd bytes c);
-  confines = write_confined fd bytes;
+  confines = write_confined move_limit fd bytes;
 }
 each_call (Lseek fd whence by) = record {
   paths = λ is. tt;

@@ -14,9 +14,9 @@ use Rattle.fs_cred.specs.Credentials.{credential, usual_credential}
 use Rattle.fs_cred.specs.Refusals.{need_errno}
 use Rattle.fs_cred.specs.Verdicts.{verdict}
 use Rattle.fs_model.specs.declared.call.Flags.{Flags}
-use Rattle.fs_model.specs.declared.call.Call.TheVariants.{Mkdir, Umask}
+use Rattle.fs_model.specs.declared.call.Call.TheVariants.{Open, Mkdir, Umask}
 use Rattle.fs_model.specs.declared.reply.Reply.{Reply}
-use Rattle.fs_model.specs.declared.reply.Reply.TheVariants.{Done, Pid, Mask, Shown, Refused}
+use Rattle.fs_model.specs.declared.reply.Reply.TheVariants.{Done, Pid, Fd, Mask, Shown, Refused}
 use Rattle.fs_model.specs.declared.reply.FileType.TheVariants.{File, Directory}
 use Rattle.fs_model.specs.declared.event.Event.{Event}
 use Rattle.fs_model.specs.declared.event.Event.TheVariants.{Spawn, Call as Calls}
@@ -37,13 +37,14 @@ fresh = record {
   room = room_with One 64 878;
   tree = empty_tree;
   processes = [];
+  openings = [];
   free = 878;
   now = 0;
   halted = false;
 }
 
 abbrev pub least_choice : State → Choice
-least_choice s = record { ino = least_unused 1 s.tree; pid = least_unused 1 s.processes; free = 0 }
+least_choice s = record { ino = least_unused 1 s.tree; pid = least_unused 1 s.processes; handle = least_unused 1 s.openings; free = 0 }
 
 abbrev pub filled : State → State
 filled s = record s { free = s.room.sectors - sectors_needed s.room s.tree }
@@ -121,3 +122,11 @@ then_replies es = replies (state_of fresh three_users) es
 pub three_users_come : replies fresh three_users ≡ Pid 1 ∷ Mask 0o22 ∷ Done ∷ Pid 2 ∷ Mask 0o22 ∷ Pid 3 ∷ Mask 0o22 ∷ []
 unfolding verdict trail_of first_refusal found_of row_of firm_refusal other_refusal after
 three_users_come = refl
+
+-- of user 1000 the directories 3 and 4, /w/a and /w/b, and the file 5, /w/a/f
+abbrev pub two_directories : List Event
+two_directories =
+    Calls 2 (Mkdir (codes "/w/a") 0o755) ∷ Calls 2 (Mkdir (codes "/w/b") 0o755) ∷ Calls 2 (Open (codes "/w/a/f") to_write 0o644) ∷ []
+
+abbrev pub they_come : List Reply
+they_come = Done ∷ Done ∷ Fd 0 ∷ []

@@ -21,7 +21,7 @@ use Rattle.fs_model.specs.Limits.{links_limit}
 use Rattle.fs_model.specs.Nodes.{Node, Body, File, Dir, Link, names_of_body}
 use Rattle.fs_model.specs.NameCalls.{link_count_demand}
 use Rattle.fs_model.specs.Trees.{Tree, Room, node_at, names_of}
-use Rattle.fs_model.specs.Processes.{Process, cwd_of}
+use Rattle.fs_model.specs.Processes.{Process}
 use Rattle.fs_model.specs.Demands.{Demand, refuse, or_else, first_of, only_if, decided, allowed_by, search_only, write_and_search, perms, failed_with, accessed_at, permission_of, permission_on, search_of, search_on}
 use Rattle.fs_model.specs.Parts.{is_empty, parts_of, start_of, path_checks}
 use Rattle.fs_model.specs.Trails.{Lookup, Trail, Outcome, Faulty, Absent, Reaches, Through, GoesOn, reached_body, reached, named_inode, arrival, looked_up, through_if, onward, lookups_from, trail_with, follows_last, trail_of}
@@ -194,9 +194,10 @@ walk_spares room t cred walk cwd form path =
     either (least_refusal cred t walk 0 trail.lookups) (slash_refusal t form trail)
     (lookups_spare cred t walk 0 trail.lookups (trail_spares room t cwd form path)) (refused ENOTDIR _ refl)
 
-pub walks_spare : (room : Room) (t : Tree) (p : Process) (k : ℕ) (walks : List (Form × List ℕ)) → AllSpare (walk_refusals room t p k walks)
-walks_spare room t p k [] = tt
-walks_spare room t p k (walk ∷ walks) = (walk_spares room t p.cred k (cwd_of p k) walk.0 walk.1, walks_spare room t p (k + 1) walks)
+pub walks_spare : (room : Room) (t : Tree) (cred : Credential) (starts : ℕ → ℕ) (k : ℕ) (walks : List (Form × List ℕ))
+    → AllSpare (walk_refusals room t cred starts k walks)
+walks_spare room t cred starts k [] = tt
+walks_spare room t cred starts k (walk ∷ walks) = (walk_spares room t cred k (starts k) walk.0 walk.1, walks_spare room t cred starts (k + 1) walks)
 
 pub paths_spare : (walks : List (Form × List ℕ)) → AllSpare (flat_map (λ walk. path_checks walk.1) walks)
 paths_spare [] = tt

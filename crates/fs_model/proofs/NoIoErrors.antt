@@ -3,14 +3,14 @@ use Rattle.std.specs.Prelude.{◌≢◌, ℕ, not, List, [], ◌∷◌, ◌++◌
 use Rattle.std.proofs.Common.{refl}
 use Rattle.std.specs.List.{flat_map}
 use Rattle.std.specs.Ordering.{nat_cmp}
-use Rattle.fs_cred.specs.declared.errno.Errno.TheVariants.{ENOENT, EIO, EBADF, EAGAIN, ENOTDIR, EINVAL, ENAMETOOLONG, ELOOP}
+use Rattle.fs_cred.specs.declared.errno.Errno.TheVariants.{ENOENT, EIO, EBADF, EAGAIN, EINVAL, ENAMETOOLONG, ELOOP}
 use Rattle.fs_cred.specs.declared.refusal.Refusal.TheVariants.{Failed}
 use Rattle.fs_cred.specs.Credentials.{Credential}
 use Rattle.fs_model.specs.declared.walk.Form.{Form}
 use Rattle.fs_model.specs.declared.call.Call.{Call}
 use Rattle.fs_model.specs.declared.event.Event.{Event}
 use Rattle.fs_model.specs.declared.event.Actor.{Actor}
-use Rattle.fs_model.specs.declared.event.Event.TheVariants.{Spawn, Exit, Call as Calls, CallAt, Enter, Stamp, Clock, Fsync, Sync, Statfs, Arm, Restart}
+use Rattle.fs_model.specs.declared.event.Event.TheVariants.{Spawn, Exit, Call as Calls, CallAt, CallBy, Stamp, Clock, Fsync, Sync, Statfs, Arm, Restart}
 use Rattle.fs_layout.specs.Maps.{get}
 use Rattle.fs_model.specs.Trees.{Tree, Room}
 use Rattle.fs_model.specs.Processes.{Process}
@@ -21,10 +21,12 @@ use Rattle.fs_model.specs.Trails.{trail_of}
 use Rattle.fs_model.specs.Walks.{first_refusal}
 use Rattle.fs_model.specs.Scenes.{Row, is_bad}
 use Rattle.fs_model.specs.Rows.{row_of}
-use Rattle.fs_model.specs.Actors.{judged_as, standing_as, is_actor_call, checks_from, start_demands}
-use Rattle.fs_model.specs.Steps.{scene_of, actor_scene, walk_refusals, early_refusal, late_refusal, early_call_at, late_call_at, demand_of, enter_demands, firm_refusal, other_refusal}
+use Rattle.fs_model.specs.Actors.{judged_as, start_of_walk, is_actor_call, checks_from, start_demands}
+use Rattle.fs_model.specs.Steps.{scene_of, actor_scene, walk_refusals, early_refusal, late_refusal, early_call_at, late_call_at, demand_of, firm_refusal, other_refusal}
 use Rattle.fs_model.proofs.NoIoDemands.{Spares, AllSpare, RowSpares, not_eio, either, first_spares, both, refused, only, walk_spares, walks_spare, paths_spare}
 use Rattle.fs_model.proofs.EachCall.{each_call}
+use Rattle.fs_model.proofs.EachHandleCall.{each_handle_call}
+use Rattle.fs_model.specs.HandleCalls.{doer, handle_call_row}
 
 -- ---- calls
 
@@ -36,9 +38,9 @@ early_spares p row spares =
 
 late_spares : (s : State) (p : Process) (row : Row) → RowSpares row → Spares (late_refusal s p row)
 late_spares s p row spares =
-    let walks = walk_refusals s.room s.tree p 1 row.walks in
+    let walks = walk_refusals s.room s.tree p.cred (λ _. p.cwd) 1 row.walks in
     first_spares (walks ++ row.demands (scene_of s p row))
-    (both walks (row.demands (scene_of s p row)) (walks_spare s.room s.tree p 1 row.walks) (spares.demands (scene_of s p row)))
+    (both walks (row.demands (scene_of s p row)) (walks_spare s.room s.tree p.cred (λ _. p.cwd) 1 row.walks) (spares.demands (scene_of s p row)))
 
 -- ---- actors
 
@@ -58,11 +60,11 @@ actor_spares v call row spares =
 late_call_at_spares : (s : State) (v : Actor) (call : Call) (row : Row) → RowSpares row → Spares (late_call_at s v call row)
 late_call_at_spares s v call row spares =
     let starts = start_demands s.tree v call row.walks in
-    let walks = walk_refusals s.room s.tree (standing_as v) 1 row.walks in
+    let walks = walk_refusals s.room s.tree v.cred (start_of_walk v) 1 row.walks in
     let demands = row.demands (actor_scene s v row) in
     first_spares (starts ++ walks ++ demands)
     (both (starts ++ walks) demands
-    (both starts walks (refused ENOENT _ refl, (refused ENOENT _ refl, (refused ELOOP _ refl, tt))) (walks_spare s.room s.tree (standing_as v) 1 row.walks))
+    (both starts walks (refused ENOENT _ refl, (refused ENOENT _ refl, (refused ELOOP _ refl, tt))) (walks_spare s.room s.tree v.cred (start_of_walk v) 1 row.walks))
     (spares.demands (actor_scene s v row)))
 
 -- ---- events
@@ -76,11 +78,11 @@ unfolding firm_refusal
 firm_spares s (Calls pid call) =
     process_spares (λ p. early_refusal p (row_of call)) (get nat_cmp s.processes pid) (λ p. early_spares p (row_of call) (each_call call).spares)
 firm_spares s (CallAt v call) = actor_spares v call (row_of call) (each_call call).spares
+firm_spares s (CallBy handle handle_call) = early_spares (doer s.openings handle handle_call) (handle_call_row handle_call) (each_handle_call handle_call).spares
 firm_spares s (Fsync pid fd) = process_spares (λ p. is_bad fd p) (get nat_cmp s.processes pid) (λ p. refused EBADF _ refl)
 firm_spares s (Exit pid) = process_spares (λ p. None) (get nat_cmp s.processes pid) (λ p. refl)
 firm_spares s (Stamp n atime mtime ctime) = refl
 firm_spares s (Clock time) = refl
-firm_spares s (Enter pid directory second) = process_spares (λ p. None) (get nat_cmp s.processes pid) (λ p. refl)
 firm_spares s (Spawn cred) = refused EAGAIN _ refl
 firm_spares s Sync = refl
 firm_spares s Statfs = refl
@@ -92,11 +94,9 @@ unfolding other_refusal
 other_spares s (Calls pid call) =
     process_spares (λ p. late_refusal s p (row_of call)) (get nat_cmp s.processes pid) (λ p. late_spares s p (row_of call) (each_call call).spares)
 other_spares s (CallAt v call) = late_call_at_spares s v call (row_of call) (each_call call).spares
+other_spares s (CallBy handle handle_call) = late_spares s (doer s.openings handle handle_call) (handle_call_row handle_call) (each_handle_call handle_call).spares
 other_spares s (Clock time) = refl
 other_spares s (Stamp n atime mtime ctime) = refused ENOENT _ refl
-other_spares s (Enter pid directory second) =
-    first_spares (enter_demands s.tree directory second)
-    (refused ENOENT _ refl, (refused ENOENT _ refl, (refused ENOTDIR _ refl, (refused ENOTDIR _ refl, tt))))
 other_spares s (Fsync pid fd) = refl
 other_spares s (Exit pid) = refl
 other_spares s (Spawn cred) = refl

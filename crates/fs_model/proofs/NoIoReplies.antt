@@ -8,34 +8,41 @@ use Rattle.fs_cred.specs.declared.refusal.Refusal.TheVariants.{Denied, Failed}
 use Rattle.fs_layout.specs.Maps.{get}
 use Rattle.fs_model.specs.declared.call.Call.{Call}
 use Rattle.fs_model.specs.declared.event.Event.{Event}
-use Rattle.fs_model.specs.declared.event.Event.TheVariants.{Spawn, Exit, Call as Calls, CallAt, Enter, Stamp, Clock, Fsync, Sync, Statfs, Arm, Restart}
+use Rattle.fs_model.specs.declared.event.Event.TheVariants.{Spawn, Exit, Call as Calls, CallAt, CallBy, Stamp, Clock, Fsync, Sync, Statfs, Arm, Restart}
 use Rattle.fs_model.specs.declared.reply.Reply.TheVariants.{Refused}
 use Rattle.fs_model.specs.Demands.{Demand}
 use Rattle.fs_model.specs.Processes.{Process}
 use Rattle.fs_model.specs.Rows.{row_of}
 use Rattle.fs_model.specs.States.{State}
-use Rattle.fs_model.specs.Steps.{Choice, firm_refusal, other_refusal, after, after_call, after_enter}
+use Rattle.fs_model.specs.Steps.{actor_scene, Choice, firm_refusal, other_refusal, after, after_call}
 use Rattle.fs_model.specs.Stops.{is_io_error}
 use Rattle.fs_model.proofs.NoIoDemands.{asks_eio}
 use Rattle.fs_model.proofs.EachCall.{each_call}
+use Rattle.fs_model.proofs.EachHandleCall.{each_handle_call}
+use Rattle.fs_model.specs.Scenes.{Effect}
+use Rattle.fs_model.specs.Actors.{actor_reply}
+use Rattle.fs_model.specs.declared.call.Call.TheVariants.{Open as OpenCall, Mkdir, Symlink}
 use Rattle.fs_model.proofs.NoIoErrors.{firm_spares, other_spares}
 
 process_answers : (s : State) (pid : ℕ) (call : Call) (number : ℕ) (o : Option Process) → is_io_error (after_call s pid (row_of call) number o).reply ≡ false
 process_answers s pid call number None = refl
 process_answers s pid call number (Some p) = (each_call call).replies _ number
 
-entering_answers : (s : State) (pid directory second : ℕ) (o : Option Process) → is_io_error (after_enter s pid directory second o).reply ≡ false
-entering_answers s pid directory second None = refl
-entering_answers s pid directory second (Some p) = refl
+actor_answers : (call : Call) (handle n : ℕ) (e : Effect) → is_io_error e.reply ≡ false → is_io_error (actor_reply call handle n e) ≡ false
+actor_answers (OpenCall path flags mode) handle n e spares = refl
+actor_answers (Mkdir path mode) handle n e spares = refl
+actor_answers (Symlink target path) handle n e spares = refl
+actor_answers call handle n e spares = spares
 
 pub event_answers : (s : State) (e : Event) (choice : Choice) → is_io_error (after s e choice).reply ≡ false
 unfolding after
 event_answers s (Calls pid call) choice = process_answers s pid call choice.ino (get nat_cmp s.processes pid)
-event_answers s (CallAt v call) choice = (each_call call).replies _ choice.ino
+event_answers s (CallAt v call) choice =
+    actor_answers call choice.handle choice.ino _ ((each_call call).replies (actor_scene s v (row_of call)) choice.ino)
+event_answers s (CallBy handle handle_call) choice = (each_handle_call handle_call).replies _ choice.ino
 event_answers s (Fsync pid fd) choice = refl
 event_answers s (Exit pid) choice = refl
 event_answers s (Spawn cred) choice = refl
-event_answers s (Enter pid directory second) choice = entering_answers s pid directory second (get nat_cmp s.processes pid)
 event_answers s (Stamp n atime mtime ctime) choice = refl
 event_answers s (Clock time) choice = refl
 event_answers s Sync choice = refl

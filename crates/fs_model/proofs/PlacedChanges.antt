@@ -13,7 +13,7 @@ use Rattle.fs_layout.specs.Maps.{name_cmp, with_entry, without}
 use Rattle.fs_layout.proofs.NameMaps.{leading}
 use Rattle.fs_model.specs.Nodes.{Node, names_of_body}
 use Rattle.fs_model.specs.Trees.{Tree, node_at, with_node, names_of, parent}
-use Rattle.fs_model.specs.Processes.{ProcessTable, is_open}
+use Rattle.fs_model.specs.Processes.{ProcessTable, users, is_open}
 use Rattle.fs_model.specs.declared.touch.Touch.{Touch}
 use Rattle.fs_model.specs.TreeChanges.{Same, Rewrite, Make, AddName, TakeName, changed, swept, lives_nameless, with_names_at}
 use Rattle.fs_model.specs.States.{State, IsState}
@@ -43,11 +43,11 @@ pub record MakesNode (s : State) (dir_ino : ℕ) (directory : Node) (name : List
 
 -- ---- the image after the call
 
-module _ (s : State) (is : IsState s) (up : IsFalse s.halted) (processes : ProcessTable) (still : (n : ℕ) → IsTrue (is_open s.processes n) → IsTrue (is_open processes n))
+module _ (s : State) (is : IsState s) (up : IsFalse s.halted) (processes : ProcessTable) (still : (n : ℕ) → IsTrue (is_open (users s.processes s.openings) n) → IsTrue (is_open processes n))
     (p : Geometry) (old : SectorMap) (held : HoldsAll p old (placed s.tree)) (room : s.room ≡ room_of p) where
   -- nothing changed
   pub same_held : HoldsAll p old (placed (swept (changed s.tree Same) processes))
-  same_held = subst (λ u. HoldsAll p old (placed u)) (sym (open_stays s.room s.tree s.processes processes is.tree (is.processes up) still)) held
+  same_held = subst (λ u. HoldsAll p old (placed u)) (sym (open_stays s.room s.tree s.processes s.openings processes is.tree (is.processes up) still)) held
 
   module _ (new : SectorMap) (touch : Touch) (n : ℕ) (was now : Node) (at : node_at s.tree n ≡ Some was) (may : MayReplace s.room s.tree was now) (changes : ChangesInode p n old new)
       (used : bit new p.inode_bitmap n ≡ bit old p.inode_bitmap n)
@@ -159,7 +159,7 @@ module _ (s : State) (is : IsState s) (up : IsFalse s.halted) (processes : Proce
         (added_dir s.room s.tree s.tree dir_ino directory name n target is.tree given (λ x. refl))
         (added_others s.room s.tree s.tree dir_ino directory name n target is.tree given (λ x. refl))))
 
-  module _ (mid new : SectorMap) (dir_ino : ℕ) (directory : Node) (name : List ℕ) (m : ℕ) (target : Node) (takes : TakesName s.tree s.processes dir_ino directory name m)
+  module _ (mid new : SectorMap) (dir_ino : ℕ) (directory : Node) (name : List ℕ) (m : ℕ) (target : Node) (takes : TakesName s.tree (users s.processes s.openings) dir_ino directory name m)
       (at : node_at s.tree m ≡ Some target) (first : ChangesInode p dir_ino old mid) (used : bit mid p.inode_bitmap dir_ino ≡ bit old p.inode_bitmap dir_ino)
       (here : HoldsNode p.version mid (inode_at p mid dir_ino) (record { node = renamed_node directory (without name_cmp (names_of_body directory.body) name); names = names_of s.tree dir_ino; parent = parent s.tree dir_ino }))
       (second : ChangesInode p m mid new) where

@@ -18,7 +18,7 @@ use Rattle.fs_layout.proofs.NameMaps.{Names, leading, once_same, once_other, los
 use Rattle.fs_model.specs.Limits.{root}
 use Rattle.fs_model.specs.Nodes.{Node, Body, File, Dir, Link, is_directory, names_of_body, with_names}
 use Rattle.fs_model.specs.Trees.{Tree, node_at, names_of, parent, IsUnderRoot, is_root, is_in, IsDirectoryAt}
-use Rattle.fs_model.specs.Processes.{ProcessTable, is_open}
+use Rattle.fs_model.specs.Processes.{ProcessTable, users, is_open}
 use Rattle.fs_model.specs.TreeChanges.{MoveName, changed, swept, lives_nameless}
 use Rattle.fs_model.specs.States.{State, IsState}
 use Rattle.fs_model.specs.StoredNodes.{Placed, HoldsNode, parent_field}
@@ -61,9 +61,9 @@ named_anywhere version image v x up other h =
     go (Dir a d) other = absurd cc
     go (Link target) other = refl
 
-module _ (s : State) (is : IsState s) (up : IsFalse s.halted) (processes : ProcessTable) (still : (n : ℕ) → IsTrue (is_open s.processes n) → IsTrue (is_open processes n))
+module _ (s : State) (is : IsState s) (up : IsFalse s.halted) (processes : ProcessTable) (still : (n : ℕ) → IsTrue (is_open (users s.processes s.openings) n) → IsTrue (is_open processes n))
     (dir_ino : ℕ) (directory : Node) (name : List ℕ) (n : ℕ) (to_dir_ino : ℕ) (to_directory : Node) (to_name : List ℕ) (o : Option ℕ)
-    (moves : MovesName s.room s.tree s.processes dir_ino directory name n to_dir_ino to_directory to_name o) (target : Node) (at : node_at s.tree n ≡ Some target) where
+    (moves : MovesName s.room s.tree (users s.processes s.openings) dir_ino directory name n to_dir_ino to_directory to_name o) (target : Node) (at : node_at s.tree n ≡ Some target) where
   abbrev pub less : Names
   less = without name_cmp (names_of_body directory.body) name
 
@@ -72,24 +72,24 @@ module _ (s : State) (is : IsState s) (up : IsFalse s.halted) (processes : Proce
 
   -- the directory to which the name goes, once it was taken
   abbrev pub middle : Between s.room s.tree (renamed s.tree dir_ino directory (without name_cmp (names_of_body directory.body) name)) to_dir_ino to_name o
-  middle = between s.room s.tree s.processes dir_ino directory name n to_dir_ino to_directory to_name o is.tree moves
+  middle = between s.room s.tree (users s.processes s.openings) dir_ino directory name n to_dir_ino to_directory to_name o is.tree moves
 
   abbrev pub more : Names
   more = with_entry name_cmp (names_of_body middle.node.body) to_name n
 
   abbrev pub u : Tree
-  u = moved s.room s.tree s.processes dir_ino directory name n to_dir_ino to_directory to_name o is.tree moves
+  u = moved s.room s.tree (users s.processes s.openings) dir_ino directory name n to_dir_ino to_directory to_name o is.tree moves
 
-  loses : LosesNames s.room s.tree u s.processes (lost_of o)
-  loses = moves_loses s.room s.tree s.processes dir_ino directory name n to_dir_ino to_directory to_name o is.tree moves
+  loses : LosesNames s.room s.tree u (users s.processes s.openings) (lost_of o)
+  loses = moves_loses s.room s.tree (users s.processes s.openings) dir_ino directory name n to_dir_ino to_directory to_name o is.tree moves
 
   gone : DropsNoNames (stays u processes) u u
-  gone = gone_empty s.room s.tree u s.processes (lost_of o) is.tree loses processes
+  gone = gone_empty s.room s.tree u (users s.processes s.openings) (lost_of o) is.tree loses processes
 
   -- ---- numbers that differ
 
   n_not_root : n ≢ root
-  n_not_root = ((were s.room s.tree s.processes dir_ino directory name n to_dir_ino to_directory to_name o is.tree moves).each name n moves.leads).leads.0
+  n_not_root = ((were s.room s.tree (users s.processes s.openings) dir_ino directory name n to_dir_ino to_directory to_name o is.tree moves).each name n moves.leads).leads.0
 
   pub apart_to : n ≢ to_dir_ino
   apart_to e =
@@ -100,7 +100,7 @@ module _ (s : State) (is : IsState s) (up : IsFalse s.halted) (processes : Proce
   parent_was : IsDirectoryAt s.tree n → parent s.tree n ≡ dir_ino
   parent_was d =
       let one = directory_named s.room s.tree is.tree n d n_not_root in
-      let some : 1 ≤ leading n (names_of_body directory.body) = leading_if (names_of_body directory.body) name n (were s.room s.tree s.processes dir_ino directory name n to_dir_ino to_directory to_name o is.tree moves).rising moves.leads in
+      let some : 1 ≤ leading n (names_of_body directory.body) = leading_if (names_of_body directory.body) name n (were s.room s.tree (users s.processes s.openings) dir_ino directory name n to_dir_ino to_directory to_name o is.tree moves).rising moves.leads in
       let names : names_at s.tree dir_ino ≡ names_of_body directory.body = ap names_or moves.stands in
       parent_is s.tree dir_ino n (subst (λ q. 1 ≤ leading n q) (sym names) some) (omega (arith, one))
 
@@ -117,13 +117,13 @@ module _ (s : State) (is : IsState s) (up : IsFalse s.halted) (processes : Proce
   parent_same : (x : ℕ) → x ≢ n → lost_of o x ≡ 0 → parent u x ≡ parent s.tree x
   parent_same x other none =
       let once = once_other n x (λ e. other (sym e)) in
-      let first = fewer s.room s.tree s.processes dir_ino directory name n to_dir_ino to_directory to_name o is.tree moves x in
-      let second = set s.room s.tree s.processes dir_ino directory name n to_dir_ino to_directory to_name o is.tree moves x in
+      let first = fewer s.room s.tree (users s.processes s.openings) dir_ino directory name n to_dir_ino to_directory to_name o is.tree moves x in
+      let second = set s.room s.tree (users s.processes s.openings) dir_ino directory name n to_dir_ino to_directory to_name o is.tree moves x in
       let now : leading x (names_of_body (renamed_node directory less).body) ≡ leading x less = ap (leading x) (names_with_names less directory.body moves.is_dir) in
       let was : leading x (names_or (node_at s.tree dir_ino)) ≡ leading x (names_of_body directory.body) = ap (λ q. leading x (names_or q)) moves.stands in
       let last : leading x (names_of_body (renamed_node middle.node more).body) ≡ leading x more = ap (leading x) (names_with_names more middle.node.body middle.directory) in
       let mid : leading x (names_or (node_at v to_dir_ino)) ≡ leading x (names_of_body middle.node.body) = ap (λ q. leading x (names_or q)) middle.here in
-      parent-with_node v to_dir_ino (renamed_node middle.node more) (v_numbers s.room s.tree s.processes dir_ino directory name n to_dir_ino to_directory to_name o is.tree moves) x (omega (arith, second, once, none, last, mid))
+      parent-with_node v to_dir_ino (renamed_node middle.node more) (v_numbers s.room s.tree (users s.processes s.openings) dir_ino directory name n to_dir_ino to_directory to_name o is.tree moves) x (omega (arith, second, once, none, last, mid))
       ∙ parent-with_node s.tree dir_ino (renamed_node directory less) is.tree.numbers x (omega (arith, first, once, now, was))
 
   at_elsewhere : (x : ℕ) → x ≢ dir_ino → x ≢ to_dir_ino → node_at u x ≡ node_at s.tree x
@@ -132,7 +132,7 @@ module _ (s : State) (is : IsState s) (up : IsFalse s.halted) (processes : Proce
   -- the directory to which it went
   moved_to : placed (swept u processes) to_dir_ino ≡ Some (record { node = renamed_node middle.node more; names = names_of s.tree to_dir_ino; parent = parent s.tree to_dir_ino })
   moved_to =
-      let none = to_dir_kept s.room s.tree s.processes dir_ino directory name n to_dir_ino to_directory to_name o is.tree moves o refl in
+      let none = to_dir_kept s.room s.tree (users s.processes s.openings) dir_ino directory name n to_dir_ino to_directory to_name o is.tree moves o refl in
       let other : to_dir_ino ≢ n = λ e. apart_to (sym e) in
       placed_stays u processes loses.numbers gone to_dir_ino (renamed_node middle.node more) (at_it v to_dir_ino (renamed_node middle.node more))
       (stays_if s is up processes still u to_dir_ino (renamed_node middle.node more) middle.stood.old middle.stood.was (type_with_names more middle.node.body ∙ middle.stood.same) (names_same to_dir_ino none))
@@ -142,7 +142,7 @@ module _ (s : State) (is : IsState s) (up : IsFalse s.halted) (processes : Proce
   -- another one from which it went
   moved_from : dir_ino ≢ to_dir_ino → placed (swept u processes) dir_ino ≡ Some (record { node = renamed_node directory less; names = names_of s.tree dir_ino; parent = parent s.tree dir_ino })
   moved_from differ =
-      let none = dir_kept s.room s.tree s.processes dir_ino directory name n to_dir_ino to_directory to_name o is.tree moves o refl in
+      let none = dir_kept s.room s.tree (users s.processes s.openings) dir_ino directory name n to_dir_ino to_directory to_name o is.tree moves o refl in
       let other : dir_ino ≢ n = λ e. apart_from (sym e) in
       placed_stays u processes loses.numbers gone dir_ino (renamed_node directory less) (at_others v to_dir_ino (renamed_node middle.node more) dir_ino differ ∙ at_it s.tree dir_ino (renamed_node directory less))
       (stays_if s is up processes still u dir_ino (renamed_node directory less) directory moves.stands (type_with_names less directory.body) (names_same dir_ino none))
@@ -152,7 +152,7 @@ module _ (s : State) (is : IsState s) (up : IsFalse s.halted) (processes : Proce
   -- what was moved
   moved_node : placed (swept u processes) n ≡ Some (record { node = target; names = names_of s.tree n; parent = parent u n })
   moved_node =
-      let none = n_kept s.room s.tree s.processes dir_ino directory name n to_dir_ino to_directory to_name o is.tree moves o refl in
+      let none = n_kept s.room s.tree (users s.processes s.openings) dir_ino directory name n to_dir_ino to_directory to_name o is.tree moves o refl in
       placed_stays u processes loses.numbers gone n target (at_elsewhere n apart_from apart_to ∙ at) (stays_if s is up processes still u n target target at refl (names_same n none))
       ∙ ap (λ k. Some (record { node = target; names = k; parent = parent u n })) (names_same n none)
 
@@ -265,7 +265,7 @@ module _ (s : State) (is : IsState s) (up : IsFalse s.halted) (processes : Proce
     n_below = node_below s p is room n target at
 
     parent_then : IsTrue (is_directory target.body) → parent u n ≡ to_dir_ino
-    parent_then d = moved_parent s.room s.tree s.processes dir_ino directory name n to_dir_ino to_directory to_name o is.tree moves (record { node = target; is_there = at; directory = d }) n_not_root
+    parent_then d = moved_parent s.room s.tree (users s.processes s.openings) dir_ino directory name n to_dir_ino to_directory to_name o is.tree moves (record { node = target; is_there = at; directory = d }) n_not_root
 
     -- a directory has its new parent
     pub parent_held : (mid new : SectorMap) → HoldsAll p mid begun → IsTrue (is_directory target.body) → ChangesInode p n mid new → bit new p.inode_bitmap n ≡ bit mid p.inode_bitmap n
@@ -289,7 +289,7 @@ module _ (s : State) (is : IsState s) (up : IsFalse s.halted) (processes : Proce
             subst (λ k. HoldsNode p.version image (inode_at p image n) (record { node = target; names = names_of s.tree n; parent = k })) stays_there was
 
     moved_then : (image : SectorMap) → HoldsAll p image (placed (swept u processes)) → HoldsAll p image (placed (swept (changed s.tree (MoveName dir_ino name to_dir_ino to_name)) processes))
-    moved_then image h = subst (λ w. HoldsAll p image (placed (swept w processes))) (sym (moved_is s.room s.tree s.processes dir_ino directory name n to_dir_ino to_directory to_name o is.tree moves)) h
+    moved_then image h = subst (λ w. HoldsAll p image (placed (swept w processes))) (sym (moved_is s.room s.tree (users s.processes s.openings) dir_ino directory name n to_dir_ino to_directory to_name o is.tree moves)) h
 
     -- nothing was replaced
     pub move_held : (image : SectorMap) → HoldsAll p image arrived → o ≡ None → HoldsAll p image (placed (swept (changed s.tree (MoveName dir_ino name to_dir_ino to_name)) processes))
@@ -301,10 +301,10 @@ module _ (s : State) (is : IsState s) (up : IsFalse s.halted) (processes : Proce
       lost_one = ap (λ q. lost_of q m) led ∙ once_same m m refl
 
       pub m_not_from : m ≢ dir_ino
-      m_not_from e = let none : lost_of o m ≡ 0 = ap (lost_of o) e ∙ dir_kept s.room s.tree s.processes dir_ino directory name n to_dir_ino to_directory to_name o is.tree moves o refl in let one = lost_one in omega (arith, none, one)
+      m_not_from e = let none : lost_of o m ≡ 0 = ap (lost_of o) e ∙ dir_kept s.room s.tree (users s.processes s.openings) dir_ino directory name n to_dir_ino to_directory to_name o is.tree moves o refl in let one = lost_one in omega (arith, none, one)
 
       pub m_not_to : m ≢ to_dir_ino
-      m_not_to e = let none : lost_of o m ≡ 0 = ap (lost_of o) e ∙ to_dir_kept s.room s.tree s.processes dir_ino directory name n to_dir_ino to_directory to_name o is.tree moves o refl in let one = lost_one in omega (arith, none, one)
+      m_not_to e = let none : lost_of o m ≡ 0 = ap (lost_of o) e ∙ to_dir_kept s.room s.tree (users s.processes s.openings) dir_ino directory name n to_dir_ino to_directory to_name o is.tree moves o refl in let one = lost_one in omega (arith, none, one)
 
       names_less : names_of u m ≡ names_of s.tree m - 1
       names_less = let all = loses.counts m in let one = lost_one in omega (arith, all, one)
@@ -337,7 +337,7 @@ module _ (s : State) (is : IsState s) (up : IsFalse s.halted) (processes : Proce
             (placed_stays u processes loses.numbers gone m replaced at_then (ap (λ k. not (k == 0) || lives_nameless processes m replaced.body) names_less ∙ stay)
             ∙ ap (λ k. Some (record { node = replaced; names = k; parent = parent u m })) names_less)
             (one_replaced p m mid new arrived held m_below changes _ _ arrived_m
-            (subst (λ w. HoldsNode p.version new (inode_at p new m) (record { node = replaced; names = names_of s.tree m - 1; parent = parent w m })) (moved_is s.room s.tree s.processes dir_ino directory name n to_dir_ino to_directory to_name o is.tree moves) here) same)
+            (subst (λ w. HoldsNode p.version new (inode_at p new m) (record { node = replaced; names = names_of s.tree m - 1; parent = parent w m })) (moved_is s.room s.tree (users s.processes s.openings) dir_ino directory name n to_dir_ino to_directory to_name o is.tree moves) here) same)
 
         -- the node that is replaced goes
         pub move_drop_held : (not (names_of s.tree m - 1 == 0) || lives_nameless processes m replaced.body) ≡ false → bit new p.inode_bitmap m ≡ false

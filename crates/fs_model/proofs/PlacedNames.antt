@@ -8,7 +8,7 @@ use Rattle.fs_layout.specs.Maps.{name_cmp, with_entry, without}
 use Rattle.fs_layout.proofs.NameMaps.{Names, leading, once_if, once_same, once_other}
 use Rattle.fs_model.specs.Nodes.{Node, names_of_body}
 use Rattle.fs_model.specs.Trees.{Tree, Room, node_at, names_of, parent, IsTree}
-use Rattle.fs_model.specs.Processes.{ProcessTable, is_open}
+use Rattle.fs_model.specs.Processes.{ProcessTable, users, is_open}
 use Rattle.fs_model.specs.TreeChanges.{swept, lives_nameless}
 use Rattle.fs_model.specs.States.{State, IsState}
 use Rattle.fs_model.specs.Stands.{placed}
@@ -78,19 +78,19 @@ module _ (room : Room) (t w : Tree) (dir_ino : ℕ) (directory : Node) (name : L
 
 -- ---- a name less
 
-module _ (s : State) (is : IsState s) (up : IsFalse s.halted) (processes : ProcessTable) (still : (n : ℕ) → IsTrue (is_open s.processes n) → IsTrue (is_open processes n))
-    (dir_ino : ℕ) (directory : Node) (name : List ℕ) (m : ℕ) (takes : TakesName s.tree s.processes dir_ino directory name m) where
+module _ (s : State) (is : IsState s) (up : IsFalse s.halted) (processes : ProcessTable) (still : (n : ℕ) → IsTrue (is_open (users s.processes s.openings) n) → IsTrue (is_open processes n))
+    (dir_ino : ℕ) (directory : Node) (name : List ℕ) (m : ℕ) (takes : TakesName s.tree (users s.processes s.openings) dir_ino directory name m) where
   abbrev less : Names
   less = without name_cmp (names_of_body directory.body) name
 
   abbrev left : Tree
   left = renamed s.tree dir_ino directory (without name_cmp (names_of_body directory.body) name)
 
-  loses : LosesNames s.room s.tree left s.processes (once_if m)
-  loses = takes_loses s.room s.tree s.processes dir_ino directory name m is.tree takes
+  loses : LosesNames s.room s.tree left (users s.processes s.openings) (once_if m)
+  loses = takes_loses s.room s.tree (users s.processes s.openings) dir_ino directory name m is.tree takes
 
   gone : DropsNoNames (stays left processes) left left
-  gone = gone_empty s.room s.tree left s.processes (once_if m) is.tree loses processes
+  gone = gone_empty s.room s.tree left (users s.processes s.openings) (once_if m) is.tree loses processes
 
   names_same : (x : ℕ) → x ≢ m → names_of left x ≡ names_of s.tree x
   names_same x other = let all = loses.counts x in let none = once_other m x (λ e. other (sym e)) in omega (arith, all, none)
@@ -100,7 +100,7 @@ module _ (s : State) (is : IsState s) (up : IsFalse s.halted) (processes : Proce
 
   parent_same : (x : ℕ) → x ≢ m → parent left x ≡ parent s.tree x
   parent_same x other =
-      let all = fewer s.room s.tree s.processes dir_ino directory name m is.tree takes x in
+      let all = fewer s.room s.tree (users s.processes s.openings) dir_ino directory name m is.tree takes x in
       let none = once_other m x (λ e. other (sym e)) in
       let now : leading x (names_of_body (renamed_node directory less).body) ≡ leading x less = ap (leading x) (names_with_names less directory.body takes.is_dir) in
       let was : leading x (names_or (node_at s.tree dir_ino)) ≡ leading x (names_of_body directory.body) = ap (λ o. leading x (names_or o)) takes.stands in
@@ -109,7 +109,7 @@ module _ (s : State) (is : IsState s) (up : IsFalse s.halted) (processes : Proce
   -- the name doesn't lead to its directory
   pub taken_apart : m ≢ dir_ino
   taken_apart e =
-      not_dir s.room s.tree s.processes dir_ino directory name m is.tree takes
+      not_dir s.room s.tree (users s.processes s.openings) dir_ino directory name m is.tree takes
       (record { node = directory; is_there = ap (node_at s.tree) e ∙ takes.stands; directory = takes.is_dir }) e
 
   -- the directory without the name

@@ -17,7 +17,7 @@ use Rattle.fs_layout.specs.InodeChanges.{ChangesInode}
 use Rattle.fs_layout.specs.Maps.{IsMap}
 use Rattle.fs_model.specs.Nodes.{Node, type_of}
 use Rattle.fs_model.specs.Trees.{Tree, Room, node_at, names_of, parent, NamesFit, IsTree}
-use Rattle.fs_model.specs.Processes.{ProcessTable, is_open}
+use Rattle.fs_model.specs.Processes.{ProcessTable, users, is_open}
 use Rattle.fs_model.specs.Births.{the_node}
 use Rattle.fs_model.specs.TreeChanges.{swept, lives_nameless}
 use Rattle.fs_model.specs.States.{State, IsState, FitsTree}
@@ -26,7 +26,7 @@ use Rattle.fs_model.specs.Stands.{HoldsPlaced, HoldsAll, placed, room_of}
 use Rattle.fs_model.proofs.Finds.{IsThere}
 use Rattle.fs_model.proofs.Frame.{one_node_changes}
 use Rattle.fs_model.proofs.StepsFit.{node_is_there}
-use Rattle.fs_model.proofs.StepsKinds.{KeepsTypes, process_moves, same_directory, same_fit}
+use Rattle.fs_model.proofs.StepsKinds.{KeepsTypes, descriptor_moves, process_moves, same_directory, same_fit}
 use Rattle.fs_model.proofs.Swept.{kept, get-filter, names_of-filter, parent-filter, DropsNoNames, stays}
 use Rattle.fs_model.proofs.Unchanged.{fitting_stays, root_directory, open_stays}
 
@@ -154,7 +154,7 @@ module _ (u : Tree) (processes : ProcessTable) (numbers : IsMap nat_cmp u) (gone
 
 -- ---- where what is open stays open
 
-module _ (s : State) (is : IsState s) (up : IsFalse s.halted) (processes : ProcessTable) (still : (n : ℕ) → IsTrue (is_open s.processes n) → IsTrue (is_open processes n)) (u : Tree) where
+module _ (s : State) (is : IsState s) (up : IsFalse s.halted) (processes : ProcessTable) (still : (n : ℕ) → IsTrue (is_open (users s.processes s.openings) n) → IsTrue (is_open processes n)) (u : Tree) where
   -- a node that is of the type that it was, with as many names
   pub stays_if : (n : ℕ) (node old : Node) → node_at s.tree n ≡ Some old → type_of node.body ≡ type_of old.body → names_of u n ≡ names_of s.tree n
       → stays u processes (n, node) ≡ true
@@ -181,10 +181,11 @@ module _ (s : State) (is : IsState s) (up : IsFalse s.halted) (processes : Proce
       → swept u processes ≡ u
   nothing_goes tree types nameless =
       let fits = is.processes up in
-      let fits_then : FitsTree u s.processes = record {
+      let fits_then : FitsTree u s.processes s.openings = record {
         each_process = λ pid q there. process_moves s.tree u types q (fits.each_process pid q there);
+        each_opening = λ handle d there. descriptor_moves s.tree u types 0 d (fits.each_opening handle d there);
         nameless = λ n node at none ne.
             let was = nameless n (ap is_some at) none in
             fits.nameless n (the_node s.tree n) (node_is_there s.tree n was.0) was.1 ne;
       } in
-      open_stays s.room u s.processes processes tree fits_then still
+      open_stays s.room u s.processes s.openings processes tree fits_then still

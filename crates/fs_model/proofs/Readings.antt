@@ -21,7 +21,7 @@ use Rattle.fs_model.specs.declared.touch.Touch.TheVariants.{Untouched, Modified}
 use Rattle.fs_model.specs.Nodes.{Node, Body, File, Dir, Link, stamped, with_bytes}
 use Rattle.fs_model.specs.Trees.{Tree, Room, node_at, with_node, names_of, IsTree}
 use Rattle.fs_model.specs.Births.{no_node, the_node, born_file}
-use Rattle.fs_model.specs.Processes.{Process, ProcessTable}
+use Rattle.fs_model.specs.Processes.{Process, ProcessTable, users}
 use Rattle.fs_model.specs.TreeChanges.{Change, Same, Rewrite, Make, changed, touches, touched, swept, lives_nameless}
 use Rattle.fs_model.specs.States.{State}
 use Rattle.fs_model.specs.Scenes.{Scene, is_found, found_ino, node_found, body_found, dir_node}
@@ -69,16 +69,16 @@ module _ (s : State) (is : IsPruned s.tree) where
   -- nothing changes, whatever becomes of the processes
   same_stays : (a : After) → a.change ≡ Same → tree_after s a ≡ s.tree
   same_stays a same =
-      ap (λ c. touched s.now (touches s.room s.tree c) (swept (changed s.tree c) a.processes)) same ∙ drops_nothing s.tree a.processes is
+      ap (λ c. touched s.now (touches s.room s.tree c) (swept (changed s.tree c) (users a.processes a.openings))) same ∙ drops_nothing s.tree (users a.processes a.openings) is
 
   -- a node is rewritten as it is
   rewrite_stays : (a : After) (n : ℕ) (node : Node) → IsMap nat_cmp s.tree → node_at s.tree n ≡ Some node → a.change ≡ Rewrite Untouched n node
       → tree_after s a ≡ s.tree
   rewrite_stays a n node sorted there same =
-      ap (λ c. touched s.now (touches s.room s.tree c) (swept (changed s.tree c) a.processes)) same
-      ∙ none_moves s.room s.tree s.now n node (swept (with_node s.tree n node) a.processes)
-      ∙ ap (λ t. swept t a.processes) (same_entry_stays s.tree n node sorted there)
-      ∙ drops_nothing s.tree a.processes is
+      ap (λ c. touched s.now (touches s.room s.tree c) (swept (changed s.tree c) (users a.processes a.openings))) same
+      ∙ none_moves s.room s.tree s.now n node (swept (with_node s.tree n node) (users a.processes a.openings))
+      ∙ ap (λ t. swept t (users a.processes a.openings)) (same_entry_stays s.tree n node sorted there)
+      ∙ drops_nothing s.tree (users a.processes a.openings) is
 
 -- ---- a call that only looks
 
@@ -163,7 +163,7 @@ answers_stay old new e reply stay (acts choice a i is) =
     record { room = ap (λ s. s.room) is; tree = ap (λ s. s.tree) is ∙ stay choice a }
 answers_stay old new e reply stay (lacks_memory h f q i same) = record { room = ap (λ s. s.room) same; tree = ap (λ s. s.tree) same }
 answers_stay old new e reply stay (read_fails h f i same) = record { room = ap (λ s. s.room) same; tree = ap (λ s. s.tree) same }
-answers_stay old new e reply stay (write_fails choice a i processes p is) =
+answers_stay old new e reply stay (write_fails choice a i processes openings p is) =
     record { room = ap (λ s. s.room) is; tree = ap (λ s. s.tree) is }
 
 pub reading_keeps : (old new : State) (e : Event) (reply : Reply) → IsTree old.room old.tree → IsPruned old.tree → IsReading e → Step old e reply new

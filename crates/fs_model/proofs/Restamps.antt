@@ -17,7 +17,7 @@ use Rattle.fs_model.specs.declared.reply.Stamps.{Stamps}
 use Rattle.fs_model.specs.Limits.{root}
 use Rattle.fs_model.specs.Nodes.{Node, sectors_of}
 use Rattle.fs_model.specs.Trees.{Tree, Room, node_at, names_for, names_of, parent, sectors_needed, AreStamps, NamesFit, IsNode, IsTree}
-use Rattle.fs_model.specs.Processes.{ProcessTable, Process}
+use Rattle.fs_model.specs.Processes.{ProcessTable, Openings, Process}
 use Rattle.fs_model.specs.declared.touch.Touch.{Touch}
 use Rattle.fs_model.specs.declared.touch.Touch.TheVariants.{Untouched, Changed, Modified, Born}
 use Rattle.fs_model.specs.TreeChanges.{Change, Same, Rewrite, Make, AddName, TakeName, MoveName, touch_at, touch_one, touched, touches, touches_of, restamp, restamped}
@@ -25,7 +25,7 @@ use Rattle.fs_model.specs.States.{State, MayBeFree, FitsTree, IsState}
 use Rattle.fs_model.specs.Alike.{node_seen, tree_seen, sees_into, blotted}
 use Rattle.fs_model.proofs.Moves.{body_moves}
 use Rattle.fs_model.proofs.Rewrites.{under}
-use Rattle.fs_model.proofs.StepsKinds.{KeepsTypes, process_moves}
+use Rattle.fs_model.proofs.StepsKinds.{KeepsTypes, descriptor_moves, process_moves}
 
 -- ---- times
 
@@ -127,9 +127,10 @@ module _ (f : ℕ → Stamps → Stamps) where
       each = λ n node at. let s = stood t n node at in subst (IsNode room (restamped f t) n) s.is (node_is n s.old (is.each n s.old s.was));
     }
 
-  pub restamped_fits : (t : Tree) (processes : ProcessTable) → FitsTree t processes → FitsTree (restamped f t) processes
-  restamped_fits t processes fits = record {
+  pub restamped_fits : (t : Tree) (processes : ProcessTable) (openings : Openings) → FitsTree t processes openings → FitsTree (restamped f t) processes openings
+  restamped_fits t processes openings fits = record {
     each_process = λ pid p here. process_moves t (restamped f t) (restamped_keeps_types t) p (fits.each_process pid p here);
+    each_opening = λ handle d here. descriptor_moves t (restamped f t) (restamped_keeps_types t) 0 d (fits.each_opening handle d here);
     nameless = λ n node at none ne. let s = stood t n node at in fits.nameless n s.old s.was (sym (names_of-restamped t n) ∙ none) ne;
   }
 
@@ -162,9 +163,10 @@ restamped_is_state s f fit is = record {
   tree = restamped_is_tree f s.room s.tree is.tree fit;
   pids = is.pids;
   few = is.few;
+  handles = is.handles;
   free = restamped_free f s.room s.tree s.free is.free;
   now = is.now;
-  processes = λ runs. restamped_fits f s.tree s.processes (is.processes runs);
+  processes = λ runs. restamped_fits f s.tree s.processes s.openings (is.processes runs);
 }
 
 -- ---- touches

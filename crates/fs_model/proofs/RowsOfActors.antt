@@ -8,7 +8,7 @@ use Rattle.fs_cred.specs.declared.rule.Rule.TheVariants.{Owner, Other, NotOwner}
 use Rattle.fs_cred.specs.Credentials.{usual_credential}
 use Rattle.fs_cred.specs.Verdicts.{verdict}
 use Rattle.fs_model.specs.declared.call.Call.{Call}
-use Rattle.fs_model.specs.declared.call.Call.TheVariants.{Open, Close, Stat, Chmod, Chown, Mkdir, Link, Symlink, Readlink, Unlink, Rename}
+use Rattle.fs_model.specs.declared.call.Call.TheVariants.{Close, Chdir, Stat, Chmod, Chown, Mkdir, Link, Symlink, Readlink, Unlink, Rename}
 use Rattle.fs_model.specs.declared.reply.Reply.TheVariants.{Done, Target}
 use Rattle.fs_model.specs.declared.event.Event.{Event}
 use Rattle.fs_model.specs.declared.event.Event.TheVariants.{Call as Calls, CallAt}
@@ -16,21 +16,20 @@ use Rattle.fs_model.specs.Trails.{trail_of}
 use Rattle.fs_model.specs.Walks.{first_refusal, found_of}
 use Rattle.fs_model.specs.Rows.{row_of}
 use Rattle.fs_model.specs.Steps.{firm_refusal, other_refusal, after}
-use Rattle.fs_model.proofs.Machine.{then_replies, to_write, denied, failed, shows_file}
-use Rattle.fs_model.proofs.RowsOfEntering.{two_directories, they_come}
+use Rattle.fs_model.proofs.Machine.{two_directories, they_come, then_replies, denied, failed, shows_file}
 
 -- user, group, and where the first path and the second start
-abbrev at : ℕ → ℕ → ℕ → ℕ → Call → Event
+abbrev pub at : ℕ → ℕ → ℕ → ℕ → Call → Event
 at uid gid start second call = CallAt (record { cred = usual_credential uid gid []; umask = 0; start = start; second_start = second }) call
 
 -- A file's owner gives it a mode below a directory that is closed to it, by the file itself; by the directory it doesn't. Another user
--- is denied after no lookup. First comes what is asked of the call, then whether both starts are there; of no descriptor an actor has
--- any.
+-- is denied after no lookup. First comes what is asked of the call, then whether both starts are there; an actor has no
+-- descriptor, and goes nowhere.
 pub chmod_of_an_object : then_replies (two_directories ++
     Calls 2 (Chmod (codes "/w/a") 0o000) ∷ at 1000 100 5 5 (Chmod [] 0o640) ∷ at 1000 100 5 5 (Stat []) ∷ at 1001 101 5 5 (Chmod [] 0o666)
     ∷ at 1000 100 3 3 (Chmod (codes "f") 0o600) ∷ at 1000 100 5 5 (Chmod (codes "f") 0o600)
     ∷ at 1000 100 60 5 (Chmod [] 0o10000) ∷ at 1000 100 60 5 (Chmod [] 0o600) ∷ at 1000 100 5 60 (Chmod [] 0o600)
-    ∷ at 1000 100 5 5 (Close 0) ∷ at 1000 100 5 5 (Open [] to_write 0o644) ∷ []) ≡
+    ∷ at 1000 100 5 5 (Close 0) ∷ at 1000 100 5 5 (Chdir []) ∷ []) ≡
     they_come
     ++ Done ∷ Done ∷ shows_file 5 0o640 1 1000 100 0 ∷ denied 1 0 Own NotOwner
     ∷ denied 1 0 Search Owner ∷ failed ENOTDIR

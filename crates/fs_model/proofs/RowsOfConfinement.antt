@@ -132,6 +132,7 @@ abbrev holding : ℕ → List ℕ → State
 holding mode bytes = record fresh {
   tree = (1, directory 0o755 ((codes "f", 2) ∷ [])) ∷ (2, file mode bytes) ∷ [];
   processes = (1, stranger) ∷ (2, with_descriptor owner 0 (to_read 2)) ∷ [];
+  openings = [];
   free = 877;
 }
 

@@ -70,9 +70,9 @@ pub the_largest_file : last_two (replies fresh (
 unfolding verdict trail_of first_refusal found_of row_of firm_refusal other_refusal after
 the_largest_file = refl
 
--- one write puts at most 16384 bytes
-pub a_run_of_four_moves : last_two (replies fresh (
-    user 0 0 [] ∷ Calls 1 (Open (codes "/r") to_read_write 0o644) ∷ Calls 1 (Write 0 (replicate 16385 120)) ∷ Calls 1 (Fstat 0) ∷ [])) ≡
-    Wrote 16384 ∷ shows_file 2 0o644 1 0 0 16384 ∷ []
+-- one write puts at most 4096 bytes
+pub a_long_write : last_two (replies fresh (
+    user 0 0 [] ∷ Calls 1 (Open (codes "/r") to_read_write 0o644) ∷ Calls 1 (Write 0 (replicate 4097 120)) ∷ Calls 1 (Fstat 0) ∷ [])) ≡
+    Wrote 4096 ∷ shows_file 2 0o644 1 0 0 4096 ∷ []
 unfolding verdict trail_of first_refusal found_of row_of firm_refusal other_refusal after
-a_run_of_four_moves = refl
+a_long_write = refl

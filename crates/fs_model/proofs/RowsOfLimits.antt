@@ -6,7 +6,7 @@ use Rattle.posix_acl.specs.AccessList.{AccessList, minimal}
 use Rattle.fs_cred.specs.declared.errno.Errno.TheVariants.{ENOSPC, EMLINK, ENAMETOOLONG}
 use Rattle.fs_cred.specs.Verdicts.{verdict}
 use Rattle.fs_model.specs.declared.call.AclType.TheVariants.{Access as AccessAcl, Default as DefaultAcl}
-use Rattle.fs_model.specs.declared.call.Call.TheVariants.{Open, Write, Stat, Truncate, Ftruncate, SetAcl, Mkdir, Link, Symlink, Rename}
+use Rattle.fs_model.specs.declared.call.Call.TheVariants.{Open, Write, Stat, Truncate, SetAcl, Mkdir, Link, Symlink, Rename}
 use Rattle.fs_model.specs.declared.reply.Reply.TheVariants.{Done, Pid, Fd, Wrote, Space}
 use Rattle.fs_model.specs.declared.event.Event.TheVariants.{Call as Calls, Statfs}
 use Rattle.fs_model.specs.Nodes.{Node, Dir, File, no_stamps}
@@ -89,18 +89,6 @@ pub fifteen_free_sectors : replies of_17_sectors (
     ∷ failed ENOSPC ∷ Done ∷ failed ENOSPC ∷ Done ∷ Done ∷ failed ENOSPC ∷ Done ∷ Space 16 60 ∷ Done ∷ []
 unfolding verdict trail_of first_refusal found_of row_of firm_refusal other_refusal after
 fifteen_free_sectors = refl
-
--- a disk with 41 data sectors
-abbrev of_41_sectors : State
-of_41_sectors = record fresh { room = record fresh.room { sectors = 41 }; free = 41 }
-
--- a write of more than 4096 bytes is refused where fewer than 40 are free, and one of so many is not
-pub thirty_nine_free_sectors : replies of_41_sectors (
-    user 0 0 [] ∷ Calls 1 (Open (codes "/f") to_read_write 0o644) ∷ Statfs ∷ Calls 1 (Write 0 (replicate 4097 120)) ∷ Statfs
-    ∷ Calls 1 (Ftruncate 0 512) ∷ Statfs ∷ Calls 1 (Write 0 (replicate 4097 120)) ∷ Calls 1 (Write 0 (replicate 4096 120)) ∷ Statfs ∷ []) ≡
-    Pid 1 ∷ Fd 0 ∷ Space 40 61 ∷ Wrote 4097 ∷ Space 31 61 ∷ Done ∷ Space 39 61 ∷ failed ENOSPC ∷ Wrote 4096 ∷ Space 22 61 ∷ []
-unfolding verdict trail_of first_refusal found_of row_of firm_refusal other_refusal after
-thirty_nine_free_sectors = refl
 
 -- a disk with 4 inodes, of which 0 isn't used and 1 is the root
 abbrev of_4_inodes : State

@@ -5,13 +5,16 @@
 --     left        the trees that a stop may leave
 use Rattle.std.specs.Prelude.{◌≡◌, ℕ, true, List, [], ◌∷◌, ◌++◌, codes, map}
 use Rattle.std.proofs.Common.{refl}
-use Rattle.fs_cred.specs.declared.errno.Errno.TheVariants.{ENOENT, EIO}
+use Rattle.fs_cred.specs.declared.errno.Errno.TheVariants.{ENOENT, EIO, EBADF}
+use Rattle.fs_cred.specs.Credentials.{usual_credential}
 use Rattle.fs_cred.specs.Verdicts.{verdict}
+use Rattle.fs_model.specs.declared.event.HandleCall.TheVariants.{Read as ReadBy, Write as WriteBy}
+use Rattle.fs_model.specs.HandleCalls.{handle_call_row}
 use Rattle.fs_model.specs.declared.call.Call.TheVariants.{Open, Read, Write, Stat, Chmod, Mkdir, Unlink}
 use Rattle.fs_model.specs.declared.reply.Reply.{Reply}
 use Rattle.fs_model.specs.declared.reply.Reply.TheVariants.{Pid, Fd, Data, Space}
 use Rattle.fs_model.specs.declared.event.Event.{Event}
-use Rattle.fs_model.specs.declared.event.Event.TheVariants.{Call as Calls, Fsync, Sync, Statfs}
+use Rattle.fs_model.specs.declared.event.Event.TheVariants.{Call as Calls, CallAt, CallBy, Fsync, Sync, Statfs}
 use Rattle.fs_model.specs.Limits.{root}
 use Rattle.fs_model.specs.Nodes.{names_of_body, shown_mode}
 use Rattle.fs_model.specs.Trees.{Tree}
@@ -105,3 +108,13 @@ pub an_open_file_without_a_name : replies_after_a_stop (
     (Pid 1 ∷ failed ENOENT ∷ Space 878 62 ∷ []) ∷ []
 unfolding verdict trail_of first_refusal found_of row_of firm_refusal other_refusal after
 an_open_file_without_a_name = refl
+
+-- nor does one that was open by a handle, which is none then
+pub a_handle_does_not_outlive_a_stop : replies_after_a_stop (
+    CallAt (record { cred = usual_credential 0 0 []; umask = 0; start = root; second_start = root }) (Open (codes "f") to_read_write 0o644)
+    ∷ CallBy 1 (WriteBy 0 (codes "hello"))
+    ∷ CallAt (record { cred = usual_credential 0 0 []; umask = 0; start = root; second_start = root }) (Unlink (codes "f")) ∷ CallBy 1 (ReadBy 0 9) ∷ Sync ∷ []) 878
+    (CallBy 1 (ReadBy 0 9) ∷ Statfs ∷ []) ≡
+    (failed EBADF ∷ Space 878 62 ∷ []) ∷ []
+unfolding verdict trail_of first_refusal found_of row_of handle_call_row firm_refusal other_refusal after
+a_handle_does_not_outlive_a_stop = refl

@@ -194,7 +194,7 @@ found_is (Some n) e = refl
 pub links_ask_as_before : LinksAskAsBefore
 links_ask_as_before s pid p old new is runs here fits early =
     let row = link_row old new in
-    let walks = walk_refusals s.room s.tree p 1 row.walks in
+    let walks = walk_refusals s.room s.tree p.cred (λ _. p.cwd) 1 row.walks in
     let c = scene_of s p row in
     let cwd = ((is.processes runs).each_process pid p here).cwd in
     let zeros = no_zero_asked row.walks (paths_met p row early) in

@@ -7,7 +7,7 @@ use Rattle.fs_cred.specs.declared.refusal.Refusal.TheVariants.{Failed}
 use Rattle.fs_model.specs.declared.reply.Reply.{Reply}
 use Rattle.fs_model.specs.declared.reply.Reply.TheVariants.{Done, Refused}
 use Rattle.fs_model.specs.declared.event.Event.{Event}
-use Rattle.fs_model.specs.declared.event.Event.TheVariants.{Spawn, Exit, Call as Calls, CallAt, Enter, Stamp, Clock, Fsync, Sync, Statfs, Arm, Restart}
+use Rattle.fs_model.specs.declared.event.Event.TheVariants.{Spawn, Exit, Call as Calls, CallAt, CallBy, Stamp, Clock, Fsync, Sync, Statfs, Arm, Restart}
 use Rattle.fs_model.specs.declared.event.EventReply.TheVariants.{Reply as Replies}
 use Rattle.fs_model.specs.Trees.{Tree}
 use Rattle.fs_model.specs.TreeChanges.{pruned}
@@ -34,7 +34,7 @@ halting old new e r (refuses_late h q f o i j) runs x = stays old new runs j x
 halting old new e r (acts c a i j) runs x = let same : new.halted ≡ old.halted = ap (λ s. s.halted) j in absurd cc
 halting old new e r (lacks_memory h f q i j) runs x = stays old new runs j x
 halting old new e r (read_fails h f i j) runs x = i
-halting old new e r (write_fails c a i d q j) runs x = i
+halting old new e r (write_fails c a i d o q j) runs x = i
 
 -- a stop leaves the one tree that the list has
 one_left : (new : Machine) (t : Tree) (s : State) → new.trees ≡ t ∷ [] → Stops new s → s.tree ≡ pruned t
@@ -49,7 +49,7 @@ stable_list (Spawn cred) r trees t h is = absurd cc
 stable_list (Exit pid) r trees t h is = absurd cc
 stable_list (Calls pid call) r trees t h is = absurd cc
 stable_list (CallAt v call) r trees t h is = absurd cc
-stable_list (Enter pid directory second) r trees t h is = absurd cc
+stable_list (CallBy handle handle_call) r trees t h is = absurd cc
 stable_list (Stamp n atime mtime ctime) r trees t h is = absurd cc
 stable_list (Clock time) r trees t h is = absurd cc
 stable_list Statfs r trees t h is = absurd cc

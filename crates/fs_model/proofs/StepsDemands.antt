@@ -77,9 +77,9 @@ arguments_met p row h = all_met row.arguments (first_of-left row.arguments (path
 pub paths_met : (p : Process) (row : Row) → early_refusal p row ≡ None → AreMet (paths_asked row)
 paths_met p row h = all_met (paths_asked row) (first_of-right row.arguments (paths_asked row) (first_of-left (row.arguments ++ paths_asked row) (row.early p) h))
 
-pub walks_met : (s : State) (p : Process) (row : Row) → late_refusal s p row ≡ None → AreMet (walk_refusals s.room s.tree p 1 row.walks)
+pub walks_met : (s : State) (p : Process) (row : Row) → late_refusal s p row ≡ None → AreMet (walk_refusals s.room s.tree p.cred (λ _. p.cwd) 1 row.walks)
 walks_met s p row h =
-    all_met (walk_refusals s.room s.tree p 1 row.walks) (first_of-left (walk_refusals s.room s.tree p 1 row.walks) (row.demands (scene_of s p row)) h)
+    all_met (walk_refusals s.room s.tree p.cred (λ _. p.cwd) 1 row.walks) (first_of-left (walk_refusals s.room s.tree p.cred (λ _. p.cwd) 1 row.walks) (row.demands (scene_of s p row)) h)
 
 -- the process of a call that nothing refuses
 pub record Caller (pid : ℕ) (s : State) (row : Row) : Type 0 where
@@ -101,7 +101,7 @@ early_met p row h = all_met (row.early p) (first_of-right (row.arguments ++ path
 
 pub demands_met : (s : State) (p : Process) (row : Row) → late_refusal s p row ≡ None → AreMet (row.demands (scene_of s p row))
 demands_met s p row h =
-    all_met (row.demands (scene_of s p row)) (first_of-right (walk_refusals s.room s.tree p 1 row.walks) (row.demands (scene_of s p row)) h)
+    all_met (row.demands (scene_of s p row)) (first_of-right (walk_refusals s.room s.tree p.cred (λ _. p.cwd) 1 row.walks) (row.demands (scene_of s p row)) h)
 
 -- ---- a descriptor that is there
 

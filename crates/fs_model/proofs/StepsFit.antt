@@ -6,18 +6,18 @@ use Rattle.fs_model.specs.declared.reply.Reply.{Reply}
 use Rattle.fs_layout.specs.Maps.{get, with_entry, IsMap}
 use Rattle.fs_model.specs.Nodes.{Node}
 use Rattle.fs_model.specs.Trees.{Tree, Room, node_at, with_node, IsTree}
-use Rattle.fs_model.specs.Processes.{Process, ProcessTable}
+use Rattle.fs_model.specs.Processes.{Process, ProcessTable, Descriptor}
 use Rattle.fs_model.specs.Births.{the_node, no_node}
 use Rattle.fs_model.specs.declared.touch.Touch.{Touch}
 use Rattle.fs_model.specs.TreeChanges.{Same, Rewrite, changed}
-use Rattle.fs_model.specs.States.{State, IsProcess, IsState}
+use Rattle.fs_model.specs.States.{State, IsDescriptor, IsProcess, IsState}
 use Rattle.fs_model.specs.Scenes.{Scene, Effect, Row}
 use Rattle.fs_model.specs.declared.walk.Form.{Form}
 use Rattle.fs_model.specs.Walks.{found_of}
 use Rattle.fs_model.specs.Steps.{scene_of, found_by, first_found, second_found}
 use Rattle.fs_model.proofs.Finds.{IsThere, finds_are_there}
 use Rattle.fs_layout.proofs.MapLaws.{with_entry-IsMap, length-with_entry}
-use Rattle.fs_model.proofs.StepsKinds.{KeepsTypes, types_stay, process_moves, MayReplace, replaced_is_tree, replaced_keeps_types}
+use Rattle.fs_model.proofs.StepsKinds.{KeepsTypes, types_stay, descriptor_moves, process_moves, MayReplace, replaced_is_tree, replaced_keeps_types}
 use Rattle.fs_model.proofs.StepsProcesses.{in_with_entry}
 use Rattle.fs_model.proofs.StepsSwept.{MayBeLeft, tree_may_be_left}
 
@@ -52,19 +52,20 @@ module _ (room : Room) (t : Tree) (is : IsTree room t) (cwd : ℕ) (there : IsTh
   second_is_there [] n e = absurd cc
   second_is_there (walk ∷ walks) n e = first_is_there walks n e
 
-pub scene_is : (s : State) (pid : ℕ) (p : Process) (row : Row) → IsState s → IsFalse s.halted → get nat_cmp s.processes pid ≡ Some p
-    → IsScene (scene_of s p row)
-scene_is s pid p row is runs here =
-    let fits = (is.processes runs).each_process pid p here in
+pub scene_fits : (s : State) (p : Process) (row : Row) → IsState s → IsFalse s.halted → IsProcess s.tree p → IsScene (scene_of s p row)
+scene_fits s p row is runs fits =
     let there : IsThere s.tree p.cwd = ap is_some fits.cwd.is_there in
-    let second : IsThere s.tree p.second_cwd = ap is_some fits.second_cwd.is_there in
     record {
       state = is;
       running = runs;
       process = fits;
       first = λ n e. first_is_there s.room s.tree is.tree p.cwd there row.walks n e;
-      second = λ n e. second_is_there s.room s.tree is.tree p.second_cwd second row.walks n e;
+      second = λ n e. second_is_there s.room s.tree is.tree p.cwd there row.walks n e;
     }
+
+pub scene_is : (s : State) (pid : ℕ) (p : Process) (row : Row) → IsState s → IsFalse s.halted → get nat_cmp s.processes pid ≡ Some p
+    → IsScene (scene_of s p row)
+scene_is s pid p row is runs here = scene_fits s p row is runs ((is.processes runs).each_process pid p here)
 
 -- ---- effects
 
@@ -104,14 +105,22 @@ abbrev pub with_caller : ProcessTable → Option ℕ → Process → ProcessTabl
 with_caller processes None p = processes
 with_caller processes (Some pid) p = with_entry nat_cmp processes pid p
 
+-- who fitted the tree fits it then
+module _ (s : State) (is : IsState s) (runs : IsFalse s.halted) (u : Tree) (types : KeepsTypes s.tree u) where
+  pub processes_move : (pid : ℕ) (p : Process) → get nat_cmp s.processes pid ≡ Some p → IsProcess u p
+  processes_move pid p at = process_moves s.tree u types p ((is.processes runs).each_process pid p at)
+
+  pub openings_move : (handle : ℕ) (d : Descriptor) → get nat_cmp s.openings handle ≡ Some d → IsDescriptor u 0 d
+  openings_move handle d at = descriptor_moves s.tree u types 0 d ((is.processes runs).each_opening handle d at)
+
 pub effect_leaves : (s : State) (caller : Option ℕ) (p : Process) (effect : Effect) → IsState s → IsFalse s.halted → IsCaller s.processes caller p
-    → EffectFits s effect → MayBeLeft s.room (changed s.tree effect.change) (with_caller s.processes caller effect.process)
+    → EffectFits s effect → MayBeLeft s.room (changed s.tree effect.change) (with_caller s.processes caller effect.process) s.openings
 effect_leaves s None p effect is runs here fits =
-    tree_may_be_left s.room (changed s.tree effect.change) s.processes fits.tree is.pids is.few
-    (λ q r at. process_moves s.tree (changed s.tree effect.change) fits.types r ((is.processes runs).each_process q r at))
+    tree_may_be_left s.room (changed s.tree effect.change) s.processes s.openings fits.tree is.pids is.few
+    (processes_move s is runs (changed s.tree effect.change) fits.types) is.handles (openings_move s is runs (changed s.tree effect.change) fits.types)
 effect_leaves s (Some pid) p effect is runs here fits =
-    tree_may_be_left s.room (changed s.tree effect.change) (with_entry nat_cmp s.processes pid effect.process) fits.tree
+    tree_may_be_left s.room (changed s.tree effect.change) (with_entry nat_cmp s.processes pid effect.process) s.openings fits.tree
     (with_entry-IsMap s.processes pid effect.process is.pids)
     (let same = length-replaced s.processes pid p effect.process is.pids here in let few = is.few in omega (arith, same, few))
     (in_with_entry (λ q r. IsProcess (changed s.tree effect.change) r) s.processes pid effect.process fits.process
-    (λ q r at. process_moves s.tree (changed s.tree effect.change) fits.types r ((is.processes runs).each_process q r at)))
+    (processes_move s is runs (changed s.tree effect.change) fits.types)) is.handles (openings_move s is runs (changed s.tree effect.change) fits.types)

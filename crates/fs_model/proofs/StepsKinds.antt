@@ -69,7 +69,7 @@ module _ (t u : Tree) (keeps : KeepsTypes t u) where
         directory = same_directory now.node.body d.node.body now.same ∙ d.directory;
       }
 
-  descriptor_moves : (fd : ℕ) (d : Descriptor) → IsDescriptor t fd d → IsDescriptor u fd d
+  pub descriptor_moves : (fd : ℕ) (d : Descriptor) → IsDescriptor t fd d → IsDescriptor u fd d
   descriptor_moves fd d x =
       let now = keeps d.ino x.node x.is_there in
       record {
@@ -86,7 +86,6 @@ module _ (t u : Tree) (keeps : KeepsTypes t u) where
     cred = x.cred;
     umask = x.umask;
     cwd = directory_moves p.cwd x.cwd;
-    second_cwd = directory_moves p.second_cwd x.second_cwd;
     descriptors = x.descriptors;
     each = λ fd d there. descriptor_moves fd d (x.each fd d there);
   }

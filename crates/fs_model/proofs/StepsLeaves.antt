@@ -3,6 +3,7 @@ use Rattle.std.specs.Prelude.{◌≡◌, ℕ, ◌==◌, Bool, true, false, not, 
 use Rattle.std.proofs.Common.{refl, ap, subst}
 use Rattle.std.specs.List.{AllByRecursion, list_any, flat_map}
 use Rattle.fs_cred.specs.declared.errno.Errno.TheVariants.{EINVAL}
+use Rattle.fs_cred.specs.Credentials.{Credential}
 use Rattle.fs_layout.specs.Bytes.{IsBytes}
 use Rattle.fs_model.specs.declared.call.Flags.{Flags}
 use Rattle.fs_model.specs.declared.call.Call.{Call}
@@ -59,18 +60,18 @@ SecondWalked room t f (_ ∷ []) = Unit {0}
 SecondWalked room t f (_ ∷ walk ∷ _) = IsWalked room t walk.0 f
 
 -- whoever walks, from wherever
-pub first_walked : (s : State) (p : Process) (walks : Walks) → IsState s → AreBytes walks → HaveNoZero walks
-    → AreMet (walk_refusals s.room s.tree p 1 walks) → FirstWalked s.room s.tree (first_found s.room s.tree p.cwd walks) walks
-first_walked s p [] is bytes zeros met = tt
-first_walked s p (walk ∷ walks) is bytes zeros met =
-    is_walked s.room is.room.name_limit s.tree is.tree p.cred p.cwd 1 walk bytes.0 zeros.0 met.0
+pub first_walked : (s : State) (cred : Credential) (starts : ℕ → ℕ) (walks : Walks) → IsState s → AreBytes walks → HaveNoZero walks
+    → AreMet (walk_refusals s.room s.tree cred starts 1 walks) → FirstWalked s.room s.tree (first_found s.room s.tree (starts 1) walks) walks
+first_walked s cred starts [] is bytes zeros met = tt
+first_walked s cred starts (walk ∷ walks) is bytes zeros met =
+    is_walked s.room is.room.name_limit s.tree is.tree cred (starts 1) 1 walk bytes.0 zeros.0 met.0
 
-pub second_walked : (s : State) (p : Process) (walks : Walks) → IsState s → AreBytes walks → HaveNoZero walks
-    → AreMet (walk_refusals s.room s.tree p 1 walks) → SecondWalked s.room s.tree (second_found s.room s.tree p.second_cwd walks) walks
-second_walked s p [] is bytes zeros met = tt
-second_walked s p (_ ∷ []) is bytes zeros met = tt
-second_walked s p (_ ∷ walk ∷ walks) is bytes zeros met =
-    is_walked s.room is.room.name_limit s.tree is.tree p.cred p.second_cwd 2 walk bytes.1.0 zeros.1.0 met.1.0
+pub second_walked : (s : State) (cred : Credential) (starts : ℕ → ℕ) (walks : Walks) → IsState s → AreBytes walks → HaveNoZero walks
+    → AreMet (walk_refusals s.room s.tree cred starts 1 walks) → SecondWalked s.room s.tree (second_found s.room s.tree (starts 2) walks) walks
+second_walked s cred starts [] is bytes zeros met = tt
+second_walked s cred starts (_ ∷ []) is bytes zeros met = tt
+second_walked s cred starts (_ ∷ walk ∷ walks) is bytes zeros met =
+    is_walked s.room is.room.name_limit s.tree is.tree cred (starts 2) 2 walk bytes.1.0 zeros.1.0 met.1.0
 
 -- ---- a call that nothing refuses
 
@@ -93,15 +94,33 @@ unrefused_call s p call is fits bytes early late =
       arguments = arguments_met p row early;
       early = early_met p row early;
       demands = demands_met s p row late;
-      first = first_walked s p row.walks is bytes zeros walks;
-      second = second_walked s p row.walks is bytes zeros walks;
+      first = first_walked s p.cred (λ _. p.cwd) row.walks is bytes zeros walks;
+      second = second_walked s p.cred (λ _. p.cwd) row.walks is bytes zeros walks;
     }
 
 -- ---- what it leaves
 
+-- what an open leaves fits, of what is there and of what is new
+pub each_open_fits : (c : Scene) → IsScene c → (path : List ℕ) (flags : Flags) (mode new : ℕ) → AreMet (open_early flags path c.process)
+    → AreMet (open_demands flags c) → IsWalked c.state.room c.state.tree (open_form flags) c.first
+    → HasNewNumber c.state (open_change flags mode c new) → EffectFits c.state (open_effect flags mode c new)
+each_open_fits c is path flags mode new asked met walked fresh = go (is_found c.first) refl
+  where
+    go : (b : Bool) → is_found c.first ≡ b → EffectFits c.state (open_effect flags mode c new)
+    go true e = open_fits c is flags e path mode new asked met
+    go false e =
+        let none = no_find c.first.ino e in
+        let asks : AreMet (open_new_demands flags c) = subst (λ b. AreMet (cond b (open_found_demands flags c) (open_new_demands flags c))) e met in
+        let file = born_file c.process.cred c.process.umask mode (dir_node c c.first) in
+        let makes : open_change flags mode c new ≡ Make c.first.dir_ino c.first.name new file =
+        ap (λ b. cond (not b) (Make c.first.dir_ino c.first.name new file)
+        (cond (flags.trunc && flags.write) (Rewrite Modified (found_ino c.first) (record (node_found c c.first) { body = with_bytes [] (body_found c c.first) })) Same)) e in
+        let number : HasNewNumber c.state (Make c.first.dir_ino c.first.name new file) = subst (HasNewNumber c.state) makes fresh in
+        open_new_fits c is (walked.new none) asks.1.1.1.1.0 new number.0 number.1 number.2 flags mode path none asked
+
 module _ (c : Scene) (is : IsScene c) (caller : Option ℕ) (here : IsCaller c.state.processes caller c.process) where
   abbrev pub Leaves : Effect → Type 0
-  Leaves e = MayBeLeft c.state.room (changed c.state.tree e.change) (with_caller c.state.processes caller e.process)
+  Leaves e = MayBeLeft c.state.room (changed c.state.tree e.change) (with_caller c.state.processes caller e.process) c.state.openings
 
   pub fits_leave : (e : Effect) → EffectFits c.state e → Leaves e
   fits_leave e fits = effect_leaves c.state caller c.process e is.state is.running here fits
@@ -113,20 +132,8 @@ module _ (c : Scene) (is : IsScene c) (caller : Option ℕ) (here : IsCaller c.s
   pub open_leaves : (path : List ℕ) (flags : Flags) (mode new : ℕ) → AreMet (open_early flags path c.process) → AreMet (open_demands flags c)
       → IsWalked c.state.room c.state.tree (open_form flags) c.first → HasNewNumber c.state (open_change flags mode c new)
       → Leaves (open_effect flags mode c new)
-  open_leaves path flags mode new asked met walked fresh = go (is_found c.first) refl
-    where
-      go : (b : Bool) → is_found c.first ≡ b → Leaves (open_effect flags mode c new)
-      go true e = fits_leave (open_effect flags mode c new) (open_fits c is flags e path mode new asked met)
-      go false e =
-          let none = no_find c.first.ino e in
-          let asks : AreMet (open_new_demands flags c) = subst (λ b. AreMet (cond b (open_found_demands flags c) (open_new_demands flags c))) e met in
-          let file = born_file c.process.cred c.process.umask mode (dir_node c c.first) in
-          let makes : open_change flags mode c new ≡ Make c.first.dir_ino c.first.name new file =
-          ap (λ b. cond (not b) (Make c.first.dir_ino c.first.name new file)
-          (cond (flags.trunc && flags.write) (Rewrite Modified (found_ino c.first) (record (node_found c c.first) { body = with_bytes [] (body_found c c.first) })) Same)) e in
-          let number : HasNewNumber c.state (Make c.first.dir_ino c.first.name new file) = subst (HasNewNumber c.state) makes fresh in
-          fits_leave (open_effect flags mode c new)
-          (open_new_fits c is (walked.new none) asks.1.1.1.1.0 new number.0 number.1 number.2 flags mode path none asked)
+  open_leaves path flags mode new asked met walked fresh =
+      fits_leave (open_effect flags mode c new) (each_open_fits c is path flags mode new asked met walked fresh)
 
   pub renames_leave : IsWalked c.state.room c.state.tree Parent c.first → IsWalked c.state.room c.state.tree Parent c.second
       → AreMet (rename_demands c) → Leaves (rename_effect c)

@@ -6,13 +6,13 @@ use Rattle.std.proofs.lemmas.Bool.{cases_eq, cases_lt, or_right}
 use Rattle.std.proofs.lemmas.Bool.Decides.{nat_tests}
 use Rattle.std.specs.Ordering.{nat_cmp}
 use Rattle.fs_model.specs.Limits.{root, processes_limit}
-use Rattle.fs_layout.specs.Maps.{get, IsMap}
+use Rattle.fs_layout.specs.Maps.{IsMap}
 use Rattle.fs_model.specs.Nodes.{Node, Body, File, Dir, Link, is_directory, names_of_body, type_of}
 use Rattle.fs_model.specs.Trees.{Tree, Room, node_at, names_of, NamesFit, IsBody, IsUnderRoot, IsNode, IsDirectoryAt, IsTree}
-use Rattle.fs_model.specs.Processes.{ProcessTable, Process, is_in_use}
+use Rattle.fs_model.specs.Processes.{ProcessTable, Openings, users, is_in_use}
 use Rattle.fs_model.specs.TreeChanges.{lives_nameless}
-use Rattle.fs_model.specs.States.{IsProcess}
-use Rattle.fs_model.proofs.StepsKinds.{KeepsTypes, same_directory, same_fit, directory_moves, process_moves}
+use Rattle.fs_model.specs.States.{FitsTree}
+use Rattle.fs_model.proofs.StepsKinds.{KeepsTypes, same_directory, same_fit, directory_moves, descriptor_moves, process_moves}
 use Rattle.fs_model.proofs.Moves.{node_from}
 use Rattle.fs_model.proofs.StepsParents.{names_or, names_at, directory_named}
 use Rattle.fs_model.proofs.StepsSwept.{MayBeLeft}
@@ -142,17 +142,20 @@ module _ (room : Room) (t u : Tree) (processes : ProcessTable) (lost : ℕ → �
         | inr none ↦ omega (arith, none)
       ]
 
-  pub loses_may_be_left : IsMap nat_cmp processes → length processes ≤ processes_limit
-      → ((pid : ℕ) (p : Process) → get nat_cmp processes pid ≡ Some p → IsProcess t p) → MayBeLeft room u processes
-  loses_may_be_left pids few each_process = record {
-    tree = record {
-      numbers = h.numbers;
-      root_is_there = directory_moves t u h.types root is.root_is_there;
-      each = node_is;
-      gone = gone_empty processes;
-    };
-    pids = pids;
-    few = few;
-    each_process = λ pid p at. process_moves t u h.types p (each_process pid p at);
-    used = used_stays;
-  }
+pub loses_may_be_left : (room : Room) (t u : Tree) (processes : ProcessTable) (openings : Openings) (lost : ℕ → ℕ) → IsTree room t
+    → LosesNames room t u (users processes openings) lost → IsMap nat_cmp processes → length processes ≤ processes_limit
+    → IsMap nat_cmp openings → FitsTree t processes openings → MayBeLeft room u processes openings
+loses_may_be_left room t u processes openings lost is h pids few handles fits = record {
+  tree = record {
+    numbers = h.numbers;
+    root_is_there = directory_moves t u h.types root is.root_is_there;
+    each = node_is room t u (users processes openings) lost is h;
+    gone = gone_empty room t u (users processes openings) lost is h (users processes openings);
+  };
+  pids = pids;
+  few = few;
+  each_process = λ pid p at. process_moves t u h.types p (fits.each_process pid p at);
+  handles = handles;
+  each_opening = λ handle d at. descriptor_moves t u h.types 0 d (fits.each_opening handle d at);
+  used = used_stays room t u (users processes openings) lost is h;
+}

@@ -6,25 +6,29 @@ use Rattle.std.specs.List.{list_any, flat_map}
 use Rattle.fs_cred.specs.declared.errno.Errno.TheVariants.{ENOENT, EBADF, EINVAL, ELOOP}
 use Rattle.fs_cred.specs.Credentials.{IsCredential}
 use Rattle.fs_model.specs.declared.call.Call.{Call}
+use Rattle.fs_model.specs.declared.call.Call.TheVariants.{Open as OpenCall}
+use Rattle.std.specs.Ordering.{nat_cmp}
+use Rattle.fs_layout.specs.Maps.{with_entry}
+use Rattle.fs_layout.proofs.MapLaws.{with_entry-IsMap}
 use Rattle.fs_model.specs.declared.event.Actor.{Actor}
 use Rattle.fs_model.specs.Trees.{node_at}
-use Rattle.fs_model.specs.Processes.{new_process}
+use Rattle.fs_model.specs.Processes.{new_process, the_descriptor}
 use Rattle.fs_model.specs.TreeChanges.{changed}
-use Rattle.fs_model.specs.States.{State, IsProcess, IsState}
+use Rattle.fs_model.specs.States.{State, IsDescriptor, IsProcess, IsState}
 use Rattle.fs_model.specs.Demands.{Demand, refuse, first_of}
 use Rattle.fs_model.specs.Scenes.{Row}
 use Rattle.fs_model.specs.Rows.{row_of}
 use Rattle.fs_model.specs.Parts.{is_empty}
 use Rattle.fs_model.specs.declared.walk.Form.TheVariants.{Follow}
-use Rattle.fs_model.specs.Actors.{judged_as, standing_as, is_actor_call, checks_from, acts_on_links, starts_at_end, is_link_node, start_demands}
+use Rattle.fs_model.specs.Actors.{judged_as, start_of_walk, opened_by, is_actor_call, checks_from, acts_on_links, starts_at_end, is_link_node, start_demands}
 use Rattle.fs_model.specs.Steps.{actor_scene, walk_refusals, early_call_at, late_call_at, HasNewNumber}
 use Rattle.fs_model.specs.Ranges.{IsCall}
 use Rattle.fs_model.proofs.Finds.{IsThere}
 use Rattle.fs_model.proofs.StepsDemands.{AreMet, first_met, then_met, all_met, met_left, met_right, unrefused}
-use Rattle.fs_model.proofs.StepsFit.{IsScene, first_is_there, second_is_there}
-use Rattle.fs_model.proofs.StepsProcesses.{new_process_fits, with_umask_fits}
-use Rattle.fs_model.proofs.StepsSwept.{MayBeLeft}
-use Rattle.fs_model.proofs.StepsLeaves.{Walks, HaveNoZero, first_walked, second_walked, IsUnrefused}
+use Rattle.fs_model.proofs.StepsFit.{IsScene, first_is_there, second_is_there, processes_move, openings_move}
+use Rattle.fs_model.proofs.StepsProcesses.{in_with_entry, new_process_fits, with_umask_fits}
+use Rattle.fs_model.proofs.StepsSwept.{MayBeLeft, tree_may_be_left}
+use Rattle.fs_model.proofs.StepsLeaves.{Walks, HaveNoZero, first_walked, second_walked, IsUnrefused, each_open_fits}
 use Rattle.fs_model.proofs.EachCall.{each_call}
 
 -- ---- what is asked of an actor, and met
@@ -67,7 +71,7 @@ module _ (s : State) (v : Actor) (call : Call) (row : Row) (late : late_call_at 
   starts = start_demands s.tree v call row.walks
 
   abbrev walked : List Demand
-  walked = walk_refusals s.room s.tree (standing_as v) 1 row.walks
+  walked = walk_refusals s.room s.tree v.cred (start_of_walk v) 1 row.walks
 
   all_asked : AreMet (starts ++ walked ++ row.demands (actor_scene s v row))
   all_asked = all_met (starts ++ walked ++ row.demands (actor_scene s v row)) late
@@ -130,10 +134,30 @@ module _ (s : State) (v : Actor) (call : Call) (is : IsState s) (runs : IsFalse 
         arguments = actor_arguments v call row early;
         early = actor_early v call row early;
         demands = actor_demands s v call row late;
-        first = first_walked s (standing_as v) row.walks is bytes zeros walks;
-        second = second_walked s (standing_as v) row.walks is bytes zeros walks;
+        first = first_walked s v.cred (start_of_walk v) row.walks is bytes zeros walks;
+        second = second_walked s v.cred (start_of_walk v) row.walks is bytes zeros walks;
       }
 
-  pub actor_leaves : (new : ℕ) → HasNewNumber s ((row_of call).effect (actor_scene s v (row_of call)) new).change
-      → MayBeLeft s.room (changed s.tree ((row_of call).effect (actor_scene s v (row_of call)) new).change) s.processes
+  actor_leaves : (new : ℕ) → HasNewNumber s ((row_of call).effect (actor_scene s v (row_of call)) new).change
+      → MayBeLeft s.room (changed s.tree ((row_of call).effect (actor_scene s v (row_of call)) new).change) s.processes s.openings
   actor_leaves new fresh = (each_call call).leaves (actor_scene s v (row_of call)) actor_is None tt new unrefused_actor fresh
+
+-- and what it opens is open then
+pub actor_opens : (s : State) (v : Actor) (call : Call) → IsState s → IsFalse s.halted → IsCredential v.cred → IsCall call
+    → early_call_at v call (row_of call) ≡ None → late_call_at s v call (row_of call) ≡ None → (handle new : ℕ)
+    → HasNewNumber s ((row_of call).effect (actor_scene s v (row_of call)) new).change
+    → MayBeLeft s.room (changed s.tree ((row_of call).effect (actor_scene s v (row_of call)) new).change) s.processes
+    (opened_by call handle ((row_of call).effect (actor_scene s v (row_of call)) new).process s.openings)
+unfolding row_of
+actor_opens s v (OpenCall path flags mode) is runs valid fits early late handle new fresh =
+    let call = OpenCall path flags mode in
+    let c = actor_scene s v (row_of call) in
+    let met = unrefused_actor s v call is runs valid fits early late in
+    let e = (row_of call).effect c new in
+    let left = each_open_fits c (actor_is s v call is runs valid fits early late) path flags mode new met.early met.demands met.first fresh in
+    let d = the_descriptor e.process 0 in
+    tree_may_be_left s.room (changed s.tree e.change) s.processes (with_entry nat_cmp s.openings handle d) left.tree is.pids is.few
+    (processes_move s is runs (changed s.tree e.change) left.types) (with_entry-IsMap s.openings handle d is.handles)
+    (in_with_entry (λ _ d. IsDescriptor (changed s.tree e.change) 0 d) s.openings handle d (left.process.each 0 d refl)
+    (openings_move s is runs (changed s.tree e.change) left.types))
+actor_opens s v call is runs valid fits early late handle new fresh = actor_leaves s v call is runs valid fits early late new fresh

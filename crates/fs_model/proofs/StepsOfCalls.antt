@@ -18,7 +18,7 @@ pub process_leaves : (s : State) (pid : ℕ) (p : Process) (call : Call) (new : 
     → IsCall call → early_refusal p (row_of call) ≡ None → late_refusal s p (row_of call) ≡ None
     → HasNewNumber s ((row_of call).effect (scene_of s p (row_of call)) new).change
     → MayBeLeft s.room (changed s.tree ((row_of call).effect (scene_of s p (row_of call)) new).change)
-    (with_entry nat_cmp s.processes pid ((row_of call).effect (scene_of s p (row_of call)) new).process)
+    (with_entry nat_cmp s.processes pid ((row_of call).effect (scene_of s p (row_of call)) new).process) s.openings
 process_leaves s pid p call new is runs here fits early late fresh =
     let row = row_of call in
     let of = each_call call in

@@ -10,7 +10,6 @@ use Rattle.fs_layout.proofs.Sectors.{IsBytes-take}
 use Rattle.fs_model.specs.declared.call.Whence.{Whence}
 use Rattle.fs_model.specs.declared.reply.Reply.{Reply}
 use Rattle.fs_model.specs.declared.reply.Reply.TheVariants.{Done, Data, Wrote, At}
-use Rattle.fs_model.specs.Limits.{run_limit, write_limit}
 use Rattle.fs_model.specs.Nodes.{bytes_in}
 use Rattle.fs_model.specs.Trees.{node_at, IsNode}
 use Rattle.fs_model.specs.Processes.{descriptor, the_descriptor, with_offset}
@@ -53,15 +52,15 @@ module _ (c : Scene) (is : IsScene c) where
     offset_small : (the_descriptor c.process fd).offset < 2 ^ 64
     offset_small = (is.process.each fd (the_descriptor c.process fd) here).offset
 
-    read_fits_here : (len : ℕ) → EffectFits c.state (read_effect fd len c)
-    read_fits_here len =
+    read_fits_here : (most len : ℕ) → EffectFits c.state (read_effect most fd len c)
+    read_fits_here most len =
         let offset = (the_descriptor c.process fd).offset in
         let bytes = bytes_in (node_open c fd).body in
         let limit : c.state.room.file_limit < 2 ^ 63 = is.state.room.file_limit in
-        let small : offset + length (take (min len run_limit) (drop offset bytes)) < 2 ^ 64 =
-        omega (arith, length-take (min len run_limit) (drop offset bytes), length-drop offset bytes, open_few, offset_small, limit) in
-        no_change_fits c.state (with_offset c.process fd (offset + length (read_bytes c fd len))) (Data (read_bytes c fd len)) is.state
-        (with_offset_fits c.state.tree c.process is.process fd (offset + length (read_bytes c fd len)) here small)
+        let small : offset + length (take (min len most) (drop offset bytes)) < 2 ^ 64 =
+        omega (arith, length-take (min len most) (drop offset bytes), length-drop offset bytes, open_few, offset_small, limit) in
+        no_change_fits c.state (with_offset c.process fd (offset + length (read_bytes most c fd len))) (Data (read_bytes most c fd len)) is.state
+        (with_offset_fits c.state.tree c.process is.process fd (offset + length (read_bytes most c fd len)) here small)
 
     lseek_fits_here : (whence : Whence) (by : ℤ) → EffectFits c.state (lseek_effect fd whence by c)
     lseek_fits_here whence by =
@@ -81,19 +80,19 @@ module _ (c : Scene) (is : IsScene c) where
         is.process
 
     -- at an offset below the limit
-    write_fits_here : (bytes : List ℕ) → IsBytes bytes → write_offset c fd < c.state.room.file_limit
+    write_fits_here : (most : ℕ) (bytes : List ℕ) → IsBytes bytes → write_offset c fd < c.state.room.file_limit
         → EffectFits c.state (record {
-          change = Rewrite Modified (the_descriptor c.process fd).ino (written (node_open c fd) (write_offset c fd) (take (write_count c fd bytes) bytes));
-          process = with_offset c.process fd (write_offset c fd + write_count c fd bytes);
-          reply = Wrote (write_count c fd bytes);
+          change = Rewrite Modified (the_descriptor c.process fd).ino (written (node_open c fd) (write_offset c fd) (take (write_count most c fd bytes) bytes));
+          process = with_offset c.process fd (write_offset c fd + write_count most c fd bytes);
+          reply = Wrote (write_count most c fd bytes);
         })
-    write_fits_here bytes are below =
+    write_fits_here top bytes are below =
         let n = (the_descriptor c.process fd).ino in
         let node = node_open c fd in
         let old = bytes_in node.body in
         let offset = write_offset c fd in
         let limit = c.state.room.file_limit in
-        let count = min (length bytes) (min write_limit (limit - offset)) in
+        let count = min (length bytes) (min top (limit - offset)) in
         let new = take count bytes in
         let most : limit < 2 ^ 63 = is.state.room.file_limit in
         let far : offset + count ≤ limit = omega (arith, below) in
@@ -104,9 +103,9 @@ module _ (c : Scene) (is : IsScene c) where
         (IsBytes-overwritten old offset new (bytes_are_bytes c.state.room c.state.tree node.body open_is.body) (IsBytes-take count bytes are)))
         (with_offset_fits c.state.tree c.process is.process fd (offset + count) here (omega (arith, far, most)))
 
-  pub read_fits : (fd len : ℕ) → AreMet (is_bad_to_read fd c.process ∷ []) → EffectFits c.state (read_effect fd len c)
-  read_fits fd len asked =
-      read_fits_here fd (is_read_here c.process fd (not-false _ (unrefused EBADF (not (the_descriptor c.process fd).read) asked.0))) len
+  pub read_fits : (most fd len : ℕ) → AreMet (is_bad_to_read fd c.process ∷ []) → EffectFits c.state (read_effect most fd len c)
+  read_fits most fd len asked =
+      read_fits_here fd (is_read_here c.process fd (not-false _ (unrefused EBADF (not (the_descriptor c.process fd).read) asked.0))) most len
 
   pub here_if_open : (fd : ℕ) → AreMet (is_bad fd c.process ∷ []) → descriptor c.process fd ≡ Some (the_descriptor c.process fd)
   here_if_open fd asked = is_open_here c.process fd (not-false _ (unrefused EBADF (not (is_some (descriptor c.process fd))) asked.0))
@@ -126,17 +125,17 @@ module _ (c : Scene) (is : IsScene c) where
       let e : nat_lt c.state.room.file_limit size ≡ false = unrefused EFBIG _ met.0 in
       ftruncate_fits_here fd (here_if_written fd asked) size (grind (arith, nat_tests))
 
-  pub write_fits : (fd : ℕ) (bytes : List ℕ) → IsBytes bytes → AreMet (is_bad_to_write fd c.process ∷ []) → AreMet (write_demands fd bytes c)
-      → EffectFits c.state (write_effect fd bytes c)
-  write_fits fd bytes are asked met = go (is_empty bytes) met
+  pub write_fits : (most fd : ℕ) (bytes : List ℕ) → IsBytes bytes → AreMet (is_bad_to_write fd c.process ∷ []) → AreMet (write_demands most fd bytes c)
+      → EffectFits c.state (write_effect most fd bytes c)
+  write_fits most fd bytes are asked met = go (is_empty bytes) met
     where
-      go : (b : Bool) → AreMet (only_if (not b) (refuse EFBIG (nat_le c.state.room.file_limit (write_offset c fd)) ∷ no_blocks_for (length bytes) c ∷ []))
+      go : (b : Bool) → AreMet (only_if (not b) (refuse EFBIG (nat_le c.state.room.file_limit (write_offset c fd)) ∷ no_blocks_for (min (length bytes) most) c ∷ []))
           → EffectFits c.state (cond b (answers c (Wrote 0)) (record {
-            change = Rewrite Modified (the_descriptor c.process fd).ino (written (node_open c fd) (write_offset c fd) (take (write_count c fd bytes) bytes));
-            process = with_offset c.process fd (write_offset c fd + write_count c fd bytes);
-            reply = Wrote (write_count c fd bytes);
+            change = Rewrite Modified (the_descriptor c.process fd).ino (written (node_open c fd) (write_offset c fd) (take (write_count most c fd bytes) bytes));
+            process = with_offset c.process fd (write_offset c fd + write_count most c fd bytes);
+            reply = Wrote (write_count most c fd bytes);
           }))
       go true met = answer_fits (Wrote 0)
       go false met =
           let e : nat_le c.state.room.file_limit (write_offset c fd) ≡ false = unrefused EFBIG _ met.0 in
-          write_fits_here fd (here_if_written fd asked) bytes are (grind (arith, nat_tests))
+          write_fits_here fd (here_if_written fd asked) most bytes are (grind (arith, nat_tests))

@@ -11,7 +11,6 @@ use Rattle.fs_model.specs.declared.call.AclType.{AclType}
 use Rattle.fs_model.specs.declared.reply.Reply.TheVariants.{Done, Mask}
 use Rattle.fs_model.specs.Nodes.{is_directory, bytes_in}
 use Rattle.fs_model.specs.Trees.{node_at, IsNode, IsDirectoryAt}
-use Rattle.fs_model.specs.Processes.{standing_at}
 use Rattle.fs_model.specs.declared.walk.Found.{Found}
 use Rattle.fs_model.specs.Scenes.{Scene, is_found, found_ino, node_found, body_found, must_be_there}
 use Rattle.fs_model.specs.DescriptorCalls.{resized_node}
@@ -20,7 +19,7 @@ use Rattle.fs_model.specs.Ranges.{IsSomeId}
 use Rattle.fs_model.proofs.StepsBodies.{bytes_are_bytes, length-resized, IsBytes-resized, bytes_may_replace, mode_may_replace, acl_may_replace, owner_may_replace}
 use Rattle.fs_model.proofs.StepsDemands.{AreMet, unrefused}
 use Rattle.fs_model.proofs.StepsFit.{IsScene, EffectFits, node_is_there, no_change_fits, rewrite_fits}
-use Rattle.fs_model.proofs.StepsProcesses.{standing_at_fits, with_umask_fits}
+use Rattle.fs_model.proofs.StepsProcesses.{with_cwd_fits, with_umask_fits}
 
 pub found_number : (o : Option ℕ) → is_some o ≡ true → o ≡ Some (unwrap_or o 0)
 found_number None h = absurd cc
@@ -77,8 +76,8 @@ module _ (c : Scene) (is : IsScene c) where
       let found = is_found_if c.first met.0 in
       let directory : is_directory (body_found c c.first) ≡ true = not-false _ (unrefused ENOTDIR (not (is_directory (body_found c c.first))) met.1.0) in
       let d : IsDirectoryAt c.state.tree (found_ino c.first) = record { node = node_found c c.first; is_there = first_at found; directory = directory } in
-      no_change_fits c.state (standing_at (found_ino c.first) (found_ino c.first) c.process) Done is.state
-      (standing_at_fits c.state.tree c.process is.process (found_ino c.first) (found_ino c.first) d d)
+      no_change_fits c.state (record c.process { cwd = found_ino c.first }) Done is.state
+      (with_cwd_fits c.state.tree c.process is.process (found_ino c.first) d)
 
   pub umask_fits : (mask new : ℕ) → EffectFits c.state (umask_effect mask c new)
   umask_fits mask new =

@@ -7,7 +7,7 @@ use Rattle.fs_cred.specs.declared.errno.Errno.TheVariants.{EBUSY, EISDIR, EINVAL
 use Rattle.fs_layout.specs.Maps.{name_cmp, without, IsMap}
 use Rattle.fs_model.specs.Nodes.{is_directory, names_of_body}
 use Rattle.fs_model.specs.Trees.{IsDirectoryAt}
-use Rattle.fs_model.specs.Processes.{Process, ProcessTable, is_in_use}
+use Rattle.fs_model.specs.Processes.{Process, ProcessTable, users, is_in_use}
 use Rattle.fs_model.specs.TreeChanges.{Change, TakeName, with_names_at, changed}
 use Rattle.fs_model.specs.Parts.{is_empty}
 use Rattle.fs_model.specs.declared.walk.Form.TheVariants.{Parent}
@@ -52,19 +52,19 @@ module _ (c : Scene) (is : IsScene c) (caller : Option ℕ) (here : IsCaller c.s
   processes_stay : with_caller c.state.processes caller c.process ≡ c.state.processes
   processes_stay = caller_stays c.state.processes caller c.process is.state.pids here
 
-  pub loses_leaves : (change : Change) (lost : ℕ → ℕ) → LosesNames c.state.room c.state.tree (changed c.state.tree change) c.state.processes lost
-      → MayBeLeft c.state.room (changed c.state.tree change) (with_caller c.state.processes caller c.process)
+  pub loses_leaves : (change : Change) (lost : ℕ → ℕ) → LosesNames c.state.room c.state.tree (changed c.state.tree change) (users c.state.processes c.state.openings) lost
+      → MayBeLeft c.state.room (changed c.state.tree change) (with_caller c.state.processes caller c.process) c.state.openings
   loses_leaves change lost h =
-      subst (MayBeLeft c.state.room (changed c.state.tree change)) (sym processes_stay)
-      (loses_may_be_left c.state.room c.state.tree (changed c.state.tree change) c.state.processes lost is.state.tree h is.state.pids is.state.few
-      (is.state.processes is.running).each_process)
+      subst (λ processes. MayBeLeft c.state.room (changed c.state.tree change) processes c.state.openings) (sym processes_stay)
+      (loses_may_be_left c.state.room c.state.tree (changed c.state.tree change) c.state.processes c.state.openings lost is.state.tree h is.state.pids
+      is.state.few is.state.handles (is.state.processes is.running))
 
   -- ---- unlink and rmdir
 
   taken_leaves : IsNameAt c.state.room c.state.tree c.first.dir_ino c.first.name c.first.ino → is_found c.first ≡ true
       → (IsDirectoryAt c.state.tree (found_ino c.first) → names_at c.state.tree (found_ino c.first) ≡ [])
-      → (IsDirectoryAt c.state.tree (found_ino c.first) → is_in_use c.state.processes (found_ino c.first) ≡ false)
-      → MayBeLeft c.state.room (changed c.state.tree (TakeName c.first.dir_ino c.first.name)) (with_caller c.state.processes caller c.process)
+      → (IsDirectoryAt c.state.tree (found_ino c.first) → is_in_use (users c.state.processes c.state.openings) (found_ino c.first) ≡ false)
+      → MayBeLeft c.state.room (changed c.state.tree (TakeName c.first.dir_ino c.first.name)) (with_caller c.state.processes caller c.process) c.state.openings
   taken_leaves name found empty unused =
       let t = c.state.tree in
       let x = dir_is_there t c.first.dir_ino c.first.name c.first.ino name in
@@ -72,8 +72,8 @@ module _ (c : Scene) (is : IsScene c) (caller : Option ℕ) (here : IsCaller c.s
       let u : changed t (TakeName c.first.dir_ino c.first.name) ≡ renamed t c.first.dir_ino directory (without name_cmp (names_of_body directory.body) c.first.name) =
       ap (with_names_at t c.first.dir_ino (λ names. without name_cmp names c.first.name)) x.0 in
       loses_leaves (TakeName c.first.dir_ino c.first.name) (once_if (found_ino c.first))
-      (subst (λ w. LosesNames c.state.room t w c.state.processes (once_if (found_ino c.first))) (sym u)
-      (takes_loses c.state.room t c.state.processes c.first.dir_ino directory c.first.name (found_ino c.first) is.state.tree (record {
+      (subst (λ w. LosesNames c.state.room t w (users c.state.processes c.state.openings) (once_if (found_ino c.first))) (sym u)
+      (takes_loses c.state.room t (users c.state.processes c.state.openings) c.first.dir_ino directory c.first.name (found_ino c.first) is.state.tree (record {
         stands = x.0;
         is_dir = x.1;
         leads = x.2 ∙ found_number c.first.ino found;
@@ -82,7 +82,7 @@ module _ (c : Scene) (is : IsScene c) (caller : Option ℕ) (here : IsCaller c.s
       })))
 
   pub unlink_leaves : IsWalked c.state.room c.state.tree Parent c.first → AreMet (unlink_demands c)
-      → MayBeLeft c.state.room (changed c.state.tree (TakeName c.first.dir_ino c.first.name)) (with_caller c.state.processes caller c.process)
+      → MayBeLeft c.state.room (changed c.state.tree (TakeName c.first.dir_ino c.first.name)) (with_caller c.state.processes caller c.process) c.state.openings
   unlink_leaves walked met =
       let special : is_special c.first ≡ false = unrefused EISDIR (is_special c.first) met.0 in
       let found = is_found_if c.first met.1.0 in
@@ -92,13 +92,13 @@ module _ (c : Scene) (is : IsScene c) (caller : Option ℕ) (here : IsCaller c.s
       (λ d. absurd (let yes = found_directory c is found d in cc))
 
   pub rmdir_leaves : IsWalked c.state.room c.state.tree Parent c.first → AreMet (rmdir_demands c)
-      → MayBeLeft c.state.room (changed c.state.tree (TakeName c.first.dir_ino c.first.name)) (with_caller c.state.processes caller c.process)
+      → MayBeLeft c.state.room (changed c.state.tree (TakeName c.first.dir_ino c.first.name)) (with_caller c.state.processes caller c.process) c.state.openings
   rmdir_leaves walked met =
       let top : ends_top c.first ≡ false = unrefused EBUSY (ends_top c.first) met.0 in
       let dot : ends_dot c.first ≡ false = unrefused EINVAL (ends_dot c.first) met.1.0 in
       let dots : ends_dot_dot c.first ≡ false = unrefused ENOTEMPTY (ends_dot_dot c.first) met.1.1.0 in
       let found = is_found_if c.first met.1.1.1.0 in
-      let used : is_in_use c.state.processes (found_ino c.first) ≡ false = unrefused EBUSY (is_in_use c.state.processes (found_ino c.first)) met.1.1.1.1.1.1.1.1.0 in
+      let used : is_in_use (users c.state.processes c.state.openings) (found_ino c.first) ≡ false = unrefused EBUSY (is_in_use (users c.state.processes c.state.openings) (found_ino c.first)) met.1.1.1.1.1.1.1.1.0 in
       let has : has_names c c.first ≡ false = unrefused ENOTEMPTY (has_names c c.first) met.1.1.1.1.1.1.1.1.1.0 in
       taken_leaves (walked.old refl (or_from (ends_top c.first || ends_dot c.first) (ends_dot_dot c.first) (or_from (ends_top c.first) (ends_dot c.first) top dot) dots)) found
       (λ d. ap names_or (first_at c is found) ∙ empty_if (names_of_body (body_found c c.first)) has)

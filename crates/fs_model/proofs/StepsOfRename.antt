@@ -10,7 +10,7 @@ use Rattle.std.proofs.lemmas.Bool.Decides.{nat_tests}
 use Rattle.fs_cred.specs.declared.errno.Errno.TheVariants.{EBUSY, EINVAL, ENOTEMPTY, ENOSPC}
 use Rattle.fs_model.specs.Nodes.{is_directory, names_of_body}
 use Rattle.fs_model.specs.Trees.{node_at, is_within, IsDirectoryAt}
-use Rattle.fs_model.specs.Processes.{is_in_use}
+use Rattle.fs_model.specs.Processes.{users, is_in_use}
 use Rattle.fs_model.specs.TreeChanges.{MoveName, changed}
 use Rattle.fs_model.specs.declared.walk.Form.TheVariants.{Parent}
 use Rattle.fs_model.specs.Demands.{only_if}
@@ -112,16 +112,16 @@ module _ (c : Scene) (is : IsScene c) (asks : IsRenamed c) (same : is_same c ≡
       and_false (is_found c.second) (has_names c c.second) (unrefused ENOTEMPTY (is_found c.second && has_names c c.second) asks.directories.1.1.0) (second_found m e) in
       ap (names_at c.state.tree) (sym (second_number m e)) ∙ ap names_or (second_at m e) ∙ empty_if (names_of_body (body_found c c.second)) has
 
-  pub replaced_unused : (m : ℕ) → c.second.ino ≡ Some m → IsDirectoryAt c.state.tree m → is_in_use c.state.processes m ≡ false
+  pub replaced_unused : (m : ℕ) → c.second.ino ≡ Some m → IsDirectoryAt c.state.tree m → is_in_use (users c.state.processes c.state.openings) m ≡ false
   replaced_unused m e d =
       let at : node_at c.state.tree m ≡ Some (node_found c c.second) = ap (node_at c.state.tree) (sym (second_number m e)) ∙ second_at m e in
       let stands = d.is_there in
       let node : d.node ≡ node_found c c.second = cc in
       let directory : is_directory (body_found c c.second) ≡ true = ap (λ v. is_directory v.body) (sym node) ∙ d.directory in
       let both : is_directory_found c c.second ≡ true = ap (λ b. b && is_directory (body_found c c.second)) (second_found m e) ∙ directory in
-      ap (is_in_use c.state.processes) (sym (second_number m e))
-      ∙ and_false (is_directory_found c c.second) (is_in_use c.state.processes (found_ino c.second))
-      (unrefused EBUSY (is_directory_found c c.second && is_in_use c.state.processes (found_ino c.second)) asks.directories.1.0) both
+      ap (is_in_use (users c.state.processes c.state.openings)) (sym (second_number m e))
+      ∙ and_false (is_directory_found c c.second) (is_in_use (users c.state.processes c.state.openings) (found_ino c.second))
+      (unrefused EBUSY (is_directory_found c c.second && is_in_use (users c.state.processes c.state.openings) (found_ino c.second)) asks.directories.1.0) both
 
   pub outside : IsDirectoryAt c.state.tree (found_ino c.first) → is_within (length c.state.tree) c.state.tree (found_ino c.first) c.second.dir_ino ≡ false
   outside d =
@@ -131,7 +131,7 @@ module _ (c : Scene) (is : IsScene c) (asks : IsRenamed c) (same : is_same c ≡
       (unrefused EINVAL (is_directory_found c c.first && is_within (length c.state.tree) c.state.tree (found_ino c.first) c.second.dir_ino) asks.directories.0) both
 
   moves_name : IsNameAt c.state.room c.state.tree c.first.dir_ino c.first.name c.first.ino → IsNameAt c.state.room c.state.tree c.second.dir_ino c.second.name c.second.ino
-      → MovesName c.state.room c.state.tree c.state.processes c.first.dir_ino (dir_node c c.first) c.first.name (found_ino c.first) c.second.dir_ino (dir_node c c.second) c.second.name c.second.ino
+      → MovesName c.state.room c.state.tree (users c.state.processes c.state.openings) c.first.dir_ino (dir_node c c.first) c.first.name (found_ino c.first) c.second.dir_ino (dir_node c c.second) c.second.name c.second.ino
   moves_name from to =
       let x = dir_is_there c.state.tree c.first.dir_ino c.first.name c.first.ino from in
       let y = dir_is_there c.state.tree c.second.dir_ino c.second.name c.second.ino to in
@@ -155,19 +155,19 @@ module _ (c : Scene) (is : IsScene c) (asks : IsRenamed c) (same : is_same c ≡
       }
 
   rename_loses : IsWalked c.state.room c.state.tree Parent c.first → IsWalked c.state.room c.state.tree Parent c.second
-      → LosesNames c.state.room c.state.tree (changed c.state.tree (MoveName c.first.dir_ino c.first.name c.second.dir_ino c.second.name)) c.state.processes (lost_of c.second.ino)
+      → LosesNames c.state.room c.state.tree (changed c.state.tree (MoveName c.first.dir_ino c.first.name c.second.dir_ino c.second.name)) (users c.state.processes c.state.openings) (lost_of c.second.ino)
   rename_loses from to =
       let a = from.old refl asks.first in
       let b = to.old refl asks.second in
-      subst (λ u. LosesNames c.state.room c.state.tree u c.state.processes (lost_of c.second.ino))
-      (sym (moved_is c.state.room c.state.tree c.state.processes c.first.dir_ino (dir_node c c.first) c.first.name (found_ino c.first) c.second.dir_ino (dir_node c c.second)
+      subst (λ u. LosesNames c.state.room c.state.tree u (users c.state.processes c.state.openings) (lost_of c.second.ino))
+      (sym (moved_is c.state.room c.state.tree (users c.state.processes c.state.openings) c.first.dir_ino (dir_node c c.first) c.first.name (found_ino c.first) c.second.dir_ino (dir_node c c.second)
       c.second.name c.second.ino is.state.tree (moves_name a b)))
-      (moves_loses c.state.room c.state.tree c.state.processes c.first.dir_ino (dir_node c c.first) c.first.name (found_ino c.first) c.second.dir_ino (dir_node c c.second)
+      (moves_loses c.state.room c.state.tree (users c.state.processes c.state.openings) c.first.dir_ino (dir_node c c.first) c.first.name (found_ino c.first) c.second.dir_ino (dir_node c c.second)
       c.second.name c.second.ino is.state.tree (moves_name a b))
 
 pub rename_leaves : (c : Scene) (is : IsScene c) (caller : Option ℕ) → IsCaller c.state.processes caller c.process
     → IsWalked c.state.room c.state.tree Parent c.first → IsWalked c.state.room c.state.tree Parent c.second → AreMet (rename_demands c) → is_same c ≡ false
-    → MayBeLeft c.state.room (changed c.state.tree (MoveName c.first.dir_ino c.first.name c.second.dir_ino c.second.name)) (with_caller c.state.processes caller c.process)
+    → MayBeLeft c.state.room (changed c.state.tree (MoveName c.first.dir_ino c.first.name c.second.dir_ino c.second.name)) (with_caller c.state.processes caller c.process) c.state.openings
 rename_leaves c is caller here from to met same =
     loses_leaves c is caller here (MoveName c.first.dir_ino c.first.name c.second.dir_ino c.second.name) (lost_of c.second.ino)
     (rename_loses c is (rename_asks c met same) same from to)

@@ -6,7 +6,7 @@ use Rattle.std.specs.Ordering.{nat_cmp, eq_by_cmp, is_eq}
 use Rattle.fs_cred.specs.Credentials.{Credential, IsCredential}
 use Rattle.fs_layout.specs.Maps.{get, with_entry, without, IsMap}
 use Rattle.fs_model.specs.Trees.{Tree, Room, IsTree, IsDirectoryAt}
-use Rattle.fs_model.specs.Processes.{Process, Descriptor, new_process, standing_at, descriptor, the_descriptor, with_descriptor, with_offset, least_unused}
+use Rattle.fs_model.specs.Processes.{Process, Descriptor, new_process, descriptor, the_descriptor, with_descriptor, with_offset, least_unused}
 use Rattle.fs_model.specs.States.{IsDescriptor, IsProcess}
 use Rattle.fs_layout.proofs.FirstEntries.{tied}
 use Rattle.fs_layout.proofs.MapLaws.{get-with_entry, with_entry-IsMap}
@@ -69,7 +69,6 @@ module _ (t : Tree) (p : Process) (x : IsProcess t p) where
     cred = x.cred;
     umask = x.umask;
     cwd = x.cwd;
-    second_cwd = x.second_cwd;
     descriptors = with_entry-IsMap p.descriptors fd d x.descriptors;
     each = in_with_entry (λ q e. IsDescriptor t q e) p.descriptors fd d fits x.each;
   }
@@ -92,33 +91,30 @@ module _ (t : Tree) (p : Process) (x : IsProcess t p) where
     cred = x.cred;
     umask = x.umask;
     cwd = x.cwd;
-    second_cwd = x.second_cwd;
     descriptors = without-IsMap p.descriptors fd x.descriptors;
     each = λ q d at. x.each q d (in_without p.descriptors fd q d x.descriptors at);
   }
 
   -- ---- where its walks start, and the umask
 
-  pub standing_at_fits : (directory second : ℕ) → IsDirectoryAt t directory → IsDirectoryAt t second → IsProcess t (standing_at directory second p)
-  standing_at_fits directory second d e = record {
+  pub with_cwd_fits : (directory : ℕ) → IsDirectoryAt t directory → IsProcess t (record p { cwd = directory })
+  with_cwd_fits directory d = record {
     cred = x.cred;
     umask = x.umask;
     cwd = d;
-    second_cwd = e;
     descriptors = x.descriptors;
     each = x.each;
   }
 
   pub with_umask_fits : (mask : ℕ) → IsProcess t (record p { umask = mask % 512 })
   with_umask_fits mask =
-      record { cred = x.cred; umask = omega arith; cwd = x.cwd; second_cwd = x.second_cwd; descriptors = x.descriptors; each = x.each }
+      record { cred = x.cred; umask = omega arith; cwd = x.cwd; descriptors = x.descriptors; each = x.each }
 
 pub new_process_fits : (room : Room) (t : Tree) (cred : Credential) → IsTree room t → IsCredential cred → IsProcess t (new_process cred)
 new_process_fits room t cred is valid = record {
   cred = valid;
   umask = omega arith;
   cwd = is.root_is_there;
-  second_cwd = is.root_is_there;
   descriptors = refl;
   each = λ fd d at. absurd cc;
 }

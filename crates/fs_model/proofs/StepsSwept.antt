@@ -9,20 +9,22 @@ use Rattle.fs_model.specs.Limits.{root, processes_limit}
 use Rattle.fs_layout.specs.Maps.{get, IsMap}
 use Rattle.fs_model.specs.Nodes.{Node, Body, File, Dir, Link, is_directory, is_link, names_of_body}
 use Rattle.fs_model.specs.Trees.{Tree, Room, node_at, names_of, NamesFit, IsTree, IsDirectoryAt}
-use Rattle.fs_model.specs.Processes.{ProcessTable, Process, Descriptor, is_open, starts_at, is_in_use}
+use Rattle.fs_model.specs.Processes.{ProcessTable, Process, Descriptor, Openings, users, is_open, is_in_use}
 use Rattle.fs_model.specs.TreeChanges.{swept, lives_nameless}
 use Rattle.fs_model.specs.States.{State, IsRoom, MayBeFree, IsDescriptor, IsProcess, FitsTree, IsState}
 use Rattle.fs_layout.proofs.FirstEntries.{in_rest}
 use Rattle.fs_model.proofs.Swept.{kept, get-filter, names_of-filter, stays, MayBeSwept, at-swept, kept_from, swept_is_tree}
 
 -- what a step leaves before what nobody can reach leaves the tree: a directory in use stays
-pub record MayBeLeft (room : Room) (u : Tree) (processes : ProcessTable) : Type 0 where
-  pub tree : MayBeSwept room u processes
+pub record MayBeLeft (room : Room) (u : Tree) (processes : ProcessTable) (openings : Openings) : Type 0 where
+  pub tree : MayBeSwept room u (users processes openings)
   pub pids : IsMap nat_cmp processes
   pub few : length processes ≤ processes_limit
   pub each_process : (pid : ℕ) (p : Process) → get nat_cmp processes pid ≡ Some p → IsProcess u p
-  pub used : (n : ℕ) (node : Node) → node_at u n ≡ Some node → IsTrue (is_directory node.body) → IsTrue (is_in_use processes n)
-      → stays u processes (n, node) ≡ true
+  pub handles : IsMap nat_cmp openings
+  pub each_opening : (handle : ℕ) (d : Descriptor) → get nat_cmp openings handle ≡ Some d → IsDescriptor u 0 d
+  pub used : (n : ℕ) (node : Node) → node_at u n ≡ Some node → IsTrue (is_directory node.body) → IsTrue (is_in_use (users processes openings) n)
+      → stays u (users processes openings) (n, node) ≡ true
 
 -- ---- tests on maps
 
@@ -42,40 +44,43 @@ same_is n = grind (arith, nat_tests)
 
 -- ---- what is open or in use
 
-open_by : (processes : ProcessTable) (pid : ℕ) (p : Process) (fd : ℕ) (d : Descriptor) → get nat_cmp processes pid ≡ Some p
-    → get nat_cmp p.descriptors fd ≡ Some d → is_open processes d.ino ≡ true
-open_by processes pid p fd d here there =
-    any_entry (λ q. list_any (λ e. e.1.ino == d.ino) q.1.descriptors) processes pid p here
-    (any_entry (λ e. e.1.ino == d.ino) p.descriptors fd d there (same_is d.ino))
+open_by : (processes : ProcessTable) (openings : Openings) (pid : ℕ) (p : Process) (fd : ℕ) (d : Descriptor) → get nat_cmp processes pid ≡ Some p
+    → get nat_cmp p.descriptors fd ≡ Some d → is_open (users processes openings) d.ino ≡ true
+open_by processes openings pid p fd d here there =
+    or_right (list_any (λ e. e.1.ino == d.ino) openings) (is_open processes d.ino)
+    (any_entry (λ q. list_any (λ e. e.1.ino == d.ino) q.1.descriptors) processes pid p here
+    (any_entry (λ e. e.1.ino == d.ino) p.descriptors fd d there (same_is d.ino)))
+
+open_by_handle : (processes : ProcessTable) (openings : Openings) (handle : ℕ) (d : Descriptor) → get nat_cmp openings handle ≡ Some d
+    → is_open (users processes openings) d.ino ≡ true
+open_by_handle processes openings handle d there =
+    or_left (list_any (λ e. e.1.ino == d.ino) openings) (is_open processes d.ino) (any_entry (λ e. e.1.ino == d.ino) openings handle d there (same_is d.ino))
 
 used_if_open : (processes : ProcessTable) (n : ℕ) → is_open processes n ≡ true → is_in_use processes n ≡ true
-used_if_open processes n h = or_right (n == root || list_any (λ q. starts_at n q.1) processes) (is_open processes n) h
+used_if_open processes n h = or_right (n == root || list_any (λ q. q.1.cwd == n) processes) (is_open processes n) h
 
-used_if_started : (processes : ProcessTable) (pid n : ℕ) (p : Process) → get nat_cmp processes pid ≡ Some p → starts_at n p ≡ true
-    → is_in_use processes n ≡ true
-used_if_started processes pid n p here starts =
-    or_left (n == root || list_any (λ q. starts_at n q.1) processes) (is_open processes n)
-    (or_right (n == root) (list_any (λ q. starts_at n q.1) processes) (any_entry (λ q. starts_at n q.1) processes pid p here starts))
-
-used_by : (processes : ProcessTable) (pid : ℕ) (p : Process) → get nat_cmp processes pid ≡ Some p → is_in_use processes p.cwd ≡ true
-used_by processes pid p here =
-    used_if_started processes pid p.cwd p here (or_left (p.cwd == p.cwd) (p.second_cwd == p.cwd) (same_is p.cwd))
-
-used_by_second : (processes : ProcessTable) (pid : ℕ) (p : Process) → get nat_cmp processes pid ≡ Some p → is_in_use processes p.second_cwd ≡ true
-used_by_second processes pid p here =
-    used_if_started processes pid p.second_cwd p here (or_right (p.cwd == p.second_cwd) (p.second_cwd == p.second_cwd) (same_is p.second_cwd))
+used_by : (processes : ProcessTable) (openings : Openings) (pid : ℕ) (p : Process) → get nat_cmp processes pid ≡ Some p
+    → is_in_use (users processes openings) p.cwd ≡ true
+used_by processes openings pid p here =
+    let all = users processes openings in
+    or_left (p.cwd == root || list_any (λ q. q.1.cwd == p.cwd) all) (is_open all p.cwd)
+    (or_right (p.cwd == root) (list_any (λ q. q.1.cwd == p.cwd) all)
+    (or_right (root == p.cwd) (list_any (λ q. q.1.cwd == p.cwd) processes) (any_entry (λ q. q.1.cwd == p.cwd) processes pid p here (same_is p.cwd))))
 
 -- ---- the swept tree
 
-module _ (room : Room) (u : Tree) (processes : ProcessTable) (h : MayBeLeft room u processes) where
-  stays_there : (n : ℕ) (node : Node) → node_at u n ≡ Some node → stays u processes (n, node) ≡ true → node_at (swept u processes) n ≡ Some node
-  stays_there = at-swept room u processes h.tree
+module _ (room : Room) (u : Tree) (processes : ProcessTable) (openings : Openings) (h : MayBeLeft room u processes openings) where
+  abbrev all : ProcessTable
+  all = users processes openings
 
-  was_there : (n : ℕ) (node : Node) (o : Option Node) → node_at u n ≡ o → kept (stays u processes) n o ≡ Some node
-      → stays u processes (n, node) ≡ true
-  was_there n node o e k = (kept_from room u processes h.tree n node o e k).1
+  stays_there : (n : ℕ) (node : Node) → node_at u n ≡ Some node → stays u all (n, node) ≡ true → node_at (swept u all) n ≡ Some node
+  stays_there = at-swept room u all h.tree
 
-  directory_stays : (n : ℕ) → IsDirectoryAt u n → IsTrue (is_in_use processes n) → IsDirectoryAt (swept u processes) n
+  was_there : (n : ℕ) (node : Node) (o : Option Node) → node_at u n ≡ o → kept (stays u all) n o ≡ Some node
+      → stays u all (n, node) ≡ true
+  was_there n node o e k = (kept_from room u all h.tree n node o e k).1
+
+  directory_stays : (n : ℕ) → IsDirectoryAt u n → IsTrue (is_in_use all n) → IsDirectoryAt (swept u all) n
   directory_stays n d used = record {
     node = d.node;
     is_there = stays_there n d.node d.is_there (h.used n d.node d.is_there d.directory used);
@@ -83,14 +88,14 @@ module _ (room : Room) (u : Tree) (processes : ProcessTable) (h : MayBeLeft room
   }
 
   -- a file that is open lives; a directory that is open is in use
-  open_stays : (n : ℕ) (node : Node) (b : Body) → node.body ≡ b → node_at u n ≡ Some node → is_open processes n ≡ true → IsFalse (is_link b)
-      → stays u processes (n, node) ≡ true
+  open_stays : (n : ℕ) (node : Node) (b : Body) → node.body ≡ b → node_at u n ≡ Some node → is_open all n ≡ true → IsFalse (is_link b)
+      → stays u all (n, node) ≡ true
   open_stays n node (File a bytes) is at opened no_link =
-      or_right (not (names_of u n == 0)) (lives_nameless processes n node.body) (ap (lives_nameless processes n) is ∙ opened)
-  open_stays n node (Dir a d) is at opened no_link = h.used n node at (ap is_directory is) (used_if_open processes n opened)
+      or_right (not (names_of u n == 0)) (lives_nameless all n node.body) (ap (lives_nameless all n) is ∙ opened)
+  open_stays n node (Dir a d) is at opened no_link = h.used n node at (ap is_directory is) (used_if_open all n opened)
   open_stays n node (Link target) is at opened no_link = absurd cc
 
-  descriptor_stays : (fd : ℕ) (d : Descriptor) → IsDescriptor u fd d → is_open processes d.ino ≡ true → IsDescriptor (swept u processes) fd d
+  descriptor_stays : (fd : ℕ) (d : Descriptor) → IsDescriptor u fd d → is_open all d.ino ≡ true → IsDescriptor (swept u all) fd d
   descriptor_stays fd d x opened = record {
     below = x.below;
     offset = x.offset;
@@ -100,51 +105,53 @@ module _ (room : Room) (u : Tree) (processes : ProcessTable) (h : MayBeLeft room
     no_writes = x.no_writes;
   }
 
-  process_stays : (pid : ℕ) (p : Process) → get nat_cmp processes pid ≡ Some p → IsProcess (swept u processes) p
+  process_stays : (pid : ℕ) (p : Process) → get nat_cmp processes pid ≡ Some p → IsProcess (swept u all) p
   process_stays pid p here =
       let x = h.each_process pid p here in
       record {
         cred = x.cred;
         umask = x.umask;
-        cwd = directory_stays p.cwd x.cwd (used_by processes pid p here);
-        second_cwd = directory_stays p.second_cwd x.second_cwd (used_by_second processes pid p here);
+        cwd = directory_stays p.cwd x.cwd (used_by processes openings pid p here);
         descriptors = x.descriptors;
-        each = λ fd d there. descriptor_stays fd d (x.each fd d there) (open_by processes pid p fd d here there);
+        each = λ fd d there. descriptor_stays fd d (x.each fd d there) (open_by processes openings pid p fd d here there);
       }
 
-  nameless_lives : (n : ℕ) (b : Body) (names : ℕ) → names ≡ 0 → n ≢ root → (not (names == 0) || lives_nameless processes n b) ≡ true
-      → IsTrue (is_open processes n)
+  nameless_lives : (n : ℕ) (b : Body) (names : ℕ) → names ≡ 0 → n ≢ root → (not (names == 0) || lives_nameless all n b) ≡ true
+      → IsTrue (is_open all n)
   nameless_lives n b names none ne k =
       let zero : (names == 0) ≡ true = grind (arith, nat_tests) in
       let other : (n == root) ≡ false = grind (arith, nat_tests) in
-      let lives : lives_nameless processes n b ≡ true = sym (ap (λ z. not z || lives_nameless processes n b) zero) ∙ k in
+      let lives : lives_nameless all n b ≡ true = sym (ap (λ z. not z || lives_nameless all n b) zero) ∙ k in
       go b other lives
     where
-      go : (b : Body) → (n == root) ≡ false → lives_nameless processes n b ≡ true → IsTrue (is_open processes n)
+      go : (b : Body) → (n == root) ≡ false → lives_nameless all n b ≡ true → IsTrue (is_open all n)
       go (File a bytes) other lives = lives
       go (Dir a d) other lives = absurd cc
       go (Link target) other lives = absurd cc
 
-  swept_fits : FitsTree (swept u processes) processes
+  swept_fits : FitsTree (swept u all) processes openings
   swept_fits = record {
     each_process = process_stays;
+    each_opening = λ handle d there. descriptor_stays 0 d (h.each_opening handle d there) (open_by_handle processes openings handle d there);
     nameless = λ n node at none ne.
-        let stood = was_there n node (node_at u n) refl (sym (get-filter (stays u processes) u h.tree.numbers n) ∙ at) in
-        let names : names_of u n ≡ 0 = sym (names_of-filter (stays u processes) u h.tree.numbers h.tree.gone n) ∙ none in
+        let stood = was_there n node (node_at u n) refl (sym (get-filter (stays u all) u h.tree.numbers n) ∙ at) in
+        let names : names_of u n ≡ 0 = sym (names_of-filter (stays u all) u h.tree.numbers h.tree.gone n) ∙ none in
         nameless_lives n node.body (names_of u n) names ne stood;
   }
 
 -- the state that is left
-pub left_is_state : (s : State) (u : Tree) (processes : ProcessTable) (free : ℕ) → IsRoom s.room → s.now < 2 ^ 64 → MayBeLeft s.room u processes
-    → MayBeFree s.room (swept u processes) free → IsState (record s { tree = swept u processes; processes = processes; free = free })
-left_is_state s u processes free room small h may = record {
+pub left_is_state : (s : State) (u : Tree) (processes : ProcessTable) (openings : Openings) (free : ℕ) → IsRoom s.room → s.now < 2 ^ 64
+    → MayBeLeft s.room u processes openings → MayBeFree s.room (swept u (users processes openings)) free
+    → IsState (record s { tree = swept u (users processes openings); processes = processes; openings = openings; free = free })
+left_is_state s u processes openings free room small h may = record {
   room = room;
-  tree = swept_is_tree s.room u processes h.tree;
+  tree = swept_is_tree s.room u (users processes openings) h.tree;
   pids = h.pids;
   few = h.few;
+  handles = h.handles;
   free = may;
   now = small;
-  processes = λ runs. swept_fits s.room u processes h;
+  processes = λ runs. swept_fits s.room u processes openings h;
 }
 
 -- ---- where the tree is one before the sweep
@@ -179,12 +186,16 @@ tree_may_be_swept room t processes is = record {
   gone = λ n node e k. goes_empty room processes n node.body (names_of t n) (is.each n node e).names k;
 }
 
-pub tree_may_be_left : (room : Room) (u : Tree) (processes : ProcessTable) → IsTree room u → IsMap nat_cmp processes → length processes ≤ processes_limit
-    → ((pid : ℕ) (p : Process) → get nat_cmp processes pid ≡ Some p → IsProcess u p) → MayBeLeft room u processes
-tree_may_be_left room u processes is pids few each_process = record {
-  tree = tree_may_be_swept room u processes is;
+pub tree_may_be_left : (room : Room) (u : Tree) (processes : ProcessTable) (openings : Openings) → IsTree room u → IsMap nat_cmp processes
+    → length processes ≤ processes_limit → ((pid : ℕ) (p : Process) → get nat_cmp processes pid ≡ Some p → IsProcess u p)
+    → IsMap nat_cmp openings → ((handle : ℕ) (d : Descriptor) → get nat_cmp openings handle ≡ Some d → IsDescriptor u 0 d)
+    → MayBeLeft room u processes openings
+tree_may_be_left room u processes openings is pids few each_process handles each_opening = record {
+  tree = tree_may_be_swept room u (users processes openings) is;
   pids = pids;
   few = few;
   each_process = each_process;
-  used = λ n node at d _. directory_lives room processes n node.body (names_of u n) (is.each n node at).names d;
+  handles = handles;
+  each_opening = each_opening;
+  used = λ n node at d _. directory_lives room (users processes openings) n node.body (names_of u n) (is.each n node at).names d;
 }

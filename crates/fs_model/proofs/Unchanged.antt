@@ -9,7 +9,7 @@ use Rattle.fs_model.specs.Limits.{root}
 use Rattle.fs_layout.specs.Maps.{get, with_entry, IsMap}
 use Rattle.fs_model.specs.Nodes.{Node, Body, File, Dir, Link, names_of_body, sectors_of, is_directory}
 use Rattle.fs_model.specs.Trees.{Tree, Room, node_at, with_node, names_of, NamesFit, IsTree}
-use Rattle.fs_model.specs.Processes.{Process, ProcessTable, is_open}
+use Rattle.fs_model.specs.Processes.{Process, ProcessTable, Openings, users, is_open}
 use Rattle.fs_model.specs.TreeChanges.{swept, lives_nameless}
 use Rattle.fs_model.specs.States.{FitsTree}
 use Rattle.fs_model.specs.Laws.{IsRewritten}
@@ -62,14 +62,15 @@ root_directory room t n node is e at =
     ap (λ k. is_directory k.body) (sym same) ∙ is.root_is_there.directory
 
 -- where what is open stays open
-pub open_stays : (room : Room) (t : Tree) (old new : ProcessTable) → IsTree room t → FitsTree t old
-    → ((n : ℕ) → IsTrue (is_open old n) → IsTrue (is_open new n)) → swept t new ≡ t
-open_stays room t old new is fits still =
+pub open_stays : (room : Room) (t : Tree) (processes : ProcessTable) (openings : Openings) (new : ProcessTable) → IsTree room t → FitsTree t processes openings
+    → ((n : ℕ) → IsTrue (is_open (users processes openings) n) → IsTrue (is_open new n)) → swept t new ≡ t
+open_stays room t processes openings new is fits still =
     all_stay (stays t new) t is.numbers
     (λ n node e. fitting_stays room new n node.body (names_of t n) (is.each n node e).names (λ none ne. still n (fits.nameless n node e none ne)) (root_directory room t n node is e))
 
-pub nothing_to_drop : (room : Room) (t : Tree) (processes : ProcessTable) → IsTree room t → FitsTree t processes → swept t processes ≡ t
-nothing_to_drop room t processes is fits = open_stays room t processes processes is fits (λ n still. still)
+pub nothing_to_drop : (room : Room) (t : Tree) (processes : ProcessTable) (openings : Openings) → IsTree room t → FitsTree t processes openings
+    → swept t (users processes openings) ≡ t
+nothing_to_drop room t processes openings is fits = open_stays room t processes openings (users processes openings) is fits (λ n still. still)
 
 -- ---- an entry that is written back
 

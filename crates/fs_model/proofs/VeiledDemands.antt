@@ -148,8 +148,8 @@ module _ (c : Scene) where
   pub write_offset-veil : (fd : ℕ) → write_offset v fd ≡ write_offset c fd
   write_offset-veil fd = let a = size_at (the_descriptor c.process fd).ino in cc
 
-  pub write_asks : (fd : ℕ) (bytes : List ℕ) → write_demands fd bytes v ≡ write_demands fd bytes c
-  write_asks fd bytes = let a = write_offset-veil fd in cc
+  pub write_asks : (most fd : ℕ) (bytes : List ℕ) → write_demands most fd bytes v ≡ write_demands most fd bytes c
+  write_asks most fd bytes = let a = write_offset-veil fd in cc
 
   pub sought-veil : (fd : ℕ) (whence : Whence) (by : ℤ) → sought v fd whence by ≡ sought c fd whence by
   sought-veil fd Set by = refl

@@ -4,9 +4,10 @@ use Rattle.std.proofs.Common.{refl, sym, ap, ◌∙◌}
 use Rattle.std.specs.Option.{option_map}
 use Rattle.std.proofs.lemmas.List.{length-replicate}
 use Rattle.std.proofs.lemmas.List.Sums.{sum_by-cons}
+use Rattle.fs_cred.specs.Credentials.{Credential}
 use Rattle.fs_model.specs.Nodes.{Node, Body, File, bytes_in, shown_mode, shown_size, type_of, acl_in, default_in}
 use Rattle.fs_model.specs.Trees.{Tree, Room, node_at, names_of, names_for, parent, is_within}
-use Rattle.fs_model.specs.Processes.{Process, cwd_of}
+use Rattle.fs_model.specs.Processes.{Process}
 use Rattle.fs_model.specs.Limits.{root}
 use Rattle.fs_model.specs.Births.{the_node, no_node}
 use Rattle.fs_model.specs.States.{State}
@@ -16,8 +17,8 @@ use Rattle.fs_model.specs.Walks.{found_of, first_refusal}
 use Rattle.fs_model.specs.Parts.{parts_of, start_of}
 use Rattle.fs_model.specs.Scenes.{Scene, Row}
 use Rattle.fs_model.specs.declared.event.Actor.{Actor}
-use Rattle.fs_model.specs.Actors.{judged_as, standing_as}
-use Rattle.fs_model.specs.Steps.{walk_refusals, found_by, first_found, second_found, scene_of, actor_scene, trail_in}
+use Rattle.fs_model.specs.Actors.{judged_as, start_of_walk}
+use Rattle.fs_model.specs.Steps.{walk_refusals, found_by, first_found, second_found, scene_from, scene_of, actor_scene, trail_in}
 use Rattle.fs_model.proofs.Veils.{same-blotted, parent-veil, veiled, veil, names_in-blotted, node_at-veil, trail_of-veil, first_refusal-veil}
 
 -- ---- states
@@ -63,22 +64,25 @@ pub second_found-veil : (room : Room) (t : Tree) (cwd : ℕ) (walks : List (Form
 second_found-veil room t cwd [] = refl
 second_found-veil room t cwd (walk ∷ walks) = first_found-veil room t cwd walks
 
-pub walk_refusals-veil : (room : Room) (t : Tree) (p : Process) (k : ℕ) (walks : List (Form × List ℕ))
-    → walk_refusals room (veil t) p k walks ≡ walk_refusals room t p k walks
-walk_refusals-veil room t p k [] = refl
-walk_refusals-veil room t p k (walk ∷ walks) =
-    ap (λ trail. first_refusal (veil t) p.cred k walk.0 trail ∷ walk_refusals room (veil t) p (k + 1) walks) (trail_of-veil room t (cwd_of p k) walk.0 walk.1)
-    ∙ ap (λ d. d ∷ walk_refusals room (veil t) p (k + 1) walks) (first_refusal-veil t p.cred k walk.0 (trail_in room t (cwd_of p k) walk))
-    ∙ ap (λ ds. first_refusal t p.cred k walk.0 (trail_in room t (cwd_of p k) walk) ∷ ds) (walk_refusals-veil room t p (k + 1) walks)
+pub walk_refusals-veil : (room : Room) (t : Tree) (cred : Credential) (starts : ℕ → ℕ) (k : ℕ) (walks : List (Form × List ℕ))
+    → walk_refusals room (veil t) cred starts k walks ≡ walk_refusals room t cred starts k walks
+walk_refusals-veil room t cred starts k [] = refl
+walk_refusals-veil room t cred starts k (walk ∷ walks) =
+    ap (λ trail. first_refusal (veil t) cred k walk.0 trail ∷ walk_refusals room (veil t) cred starts (k + 1) walks) (trail_of-veil room t (starts k) walk.0 walk.1)
+    ∙ ap (λ d. d ∷ walk_refusals room (veil t) cred starts (k + 1) walks) (first_refusal-veil t cred k walk.0 (trail_in room t (starts k) walk))
+    ∙ ap (λ ds. first_refusal t cred k walk.0 (trail_in room t (starts k) walk) ∷ ds) (walk_refusals-veil room t cred starts (k + 1) walks)
 
 -- the scene of a call
+pub scene_from-veil : (s : State) (p : Process) (starts : ℕ → ℕ) (row : Row) → scene_from (veiled_state s) p starts row ≡ veiled_scene (scene_from s p starts row)
+scene_from-veil s p starts row =
+    ap (λ f. record { state = veiled_state s; process = p; first = f; second = second_found s.room (veil s.tree) (starts 2) row.walks }) (first_found-veil s.room s.tree (starts 1) row.walks)
+    ∙ ap (λ f. record { state = veiled_state s; process = p; first = first_found s.room s.tree (starts 1) row.walks; second = f }) (second_found-veil s.room s.tree (starts 2) row.walks)
+
 pub scene_of-veil : (s : State) (p : Process) (row : Row) → scene_of (veiled_state s) p row ≡ veiled_scene (scene_of s p row)
-scene_of-veil s p row =
-    ap (λ f. record { state = veiled_state s; process = p; first = f; second = second_found s.room (veil s.tree) p.second_cwd row.walks }) (first_found-veil s.room s.tree p.cwd row.walks)
-    ∙ ap (λ f. record { state = veiled_state s; process = p; first = first_found s.room s.tree p.cwd row.walks; second = f }) (second_found-veil s.room s.tree p.second_cwd row.walks)
+scene_of-veil s p row = scene_from-veil s p (λ _. p.cwd) row
 
 pub actor_scene-veil : (s : State) (v : Actor) (row : Row) → actor_scene (veiled_state s) v row ≡ veiled_scene (actor_scene s v row)
-actor_scene-veil s v row = ap {A = Scene} (λ c. record c { process = judged_as v }) (scene_of-veil s (standing_as v) row)
+actor_scene-veil s v row = scene_from-veil s (judged_as v) (start_of_walk v) row
 
 -- ---- what is shown of a node
 

@@ -1,7 +1,7 @@
 -- What an actor's call is: what the call of a process that stands where its paths start would be.
---     MatchesActor        a process with the actor's credential and mask, which stands where the actor's paths start
+--     MatchesActor        a process with the actor's credential and mask and nothing open, which stands where the actor's paths start
 --     HaveNames        no path is empty
---     ActorsCallAsProcesses        it is refused as the call is, changes the tree as the call does, and answers as the call does
+--     ActorsCallAsProcesses        it is refused as the call is, and its effect is the call's
 --     ActorsFollow        what is found by a path that is followed is no link
 --     link_demands_of_paths, LinksAskAsBefore        what link(2) asks of paths is what it asks, and how processes are refused
 use Rattle.std.specs.Prelude.{◌≡◌, ℕ, ◌%◌, nat_le, ◌&&◌, List, [], ◌∷◌, None, Some, IsTrue, IsFalse}
@@ -26,28 +26,29 @@ use Rattle.fs_model.specs.NameCalls.{link_row}
 use Rattle.fs_model.specs.Ranges.{IsCall}
 use Rattle.fs_model.specs.declared.call.Call.TheVariants.{Link as LinkCall}
 use Rattle.fs_cred.specs.declared.errno.Errno.TheVariants.{EPERM, ENOENT, ENOTDIR, EMLINK}
-use Rattle.fs_model.specs.Steps.{Choice, actor_scene, early_refusal, late_refusal, firm_refusal, other_refusal, after}
+use Rattle.fs_model.specs.Steps.{Choice, scene_of, actor_scene, after_call_at, early_refusal, late_refusal, firm_refusal, other_refusal, after}
 
 pub record MatchesActor (actor : Actor) (p : Process) : Type 0 where
   pub cred : p.cred ≡ actor.cred
   pub umask : p.umask ≡ actor.umask % 512
   pub start : p.cwd ≡ actor.start
-  pub second_start : p.second_cwd ≡ actor.second_start
+  pub second_start : p.cwd ≡ actor.second_start
+  pub descriptors : p.descriptors ≡ []
 
 abbrev pub HaveNames : List (Form × List ℕ) → Type 0
 HaveNames walks = AllByRecursion (λ walk. IsFalse (is_empty walk.1)) walks
 
--- the processes are left as they were, which is what such a call does to them
-pub record IsAsCalled (s : State) (actor : Actor) (pid : ℕ) (call : Call) (choice : Choice) : Type 0 where
+-- what the call does is done, and what it opens is open by a handle in place of the process's descriptor 0
+pub record IsAsCalled (s : State) (actor : Actor) (pid : ℕ) (p : Process) (call : Call) (choice : Choice) : Type 0 where
   pub firm : firm_refusal s (CallAt actor call) ≡ firm_refusal s (Calls pid call)
   pub other : other_refusal s (CallAt actor call) ≡ other_refusal s (Calls pid call)
-  pub after : after s (CallAt actor call) choice ≡ after s (Calls pid call) choice
+  pub after : after s (CallAt actor call) choice ≡ after_call_at s call choice ((row_of call).effect (scene_of s p (row_of call)) choice.ino)
 
 abbrev pub ActorsCallAsProcesses : Type 0
 ActorsCallAsProcesses =
     (s : State) (actor : Actor) (pid : ℕ) (p : Process) (call : Call) (choice : Choice) → IsState s → IsFalse s.halted
     → get nat_cmp s.processes pid ≡ Some p → MatchesActor actor p → IsTrue (is_actor_call call) → HaveNames (row_of call).walks
-    → IsAsCalled s actor pid call choice
+    → IsAsCalled s actor pid p call choice
 
 -- What an actor's call finds by a path that is followed is no link, but where the call acts on the link at which it starts.
 abbrev pub ActorsFollow : Type 0

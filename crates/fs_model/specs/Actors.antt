@@ -1,30 +1,38 @@
 -- Actors: who makes a call and is no process, from objects that are given. Our own rule.
---     judged_as, standing_as        as whom an actor is judged, and where its paths start
+--     judged_as, start_of_walk        as whom an actor is judged, and where its paths start
 --     is_actor_call        the calls that an actor makes
+--     is_look        those of them that only look
+--     opened_by, actor_reply        what it has open then, and what it is answered
 --     checks_from        what is asked of a path that starts at an object
 --     start_demands        what is asked of the objects
-use Rattle.std.specs.Prelude.{ℕ, ◌%◌, Bool, true, false, not, ◌&&◌, List, [], ◌∷◌, Option, None, Some, is_some}
+use Rattle.std.specs.Prelude.{ℕ, ◌%◌, ◌==◌, if◌then◌else◌, Bool, true, false, not, ◌&&◌, List, [], ◌∷◌, Option, None, Some, is_some}
 use Rattle.fs_cred.specs.declared.errno.Errno.TheVariants.{ENOENT, ELOOP}
 use Rattle.fs_model.specs.declared.call.Call.{Call}
-use Rattle.fs_model.specs.declared.call.Call.TheVariants.{Stat, Lstat, Access, Truncate, Chmod, Chown, GetAcl, SetAcl, Mkdir, Rmdir, Link as LinkCall, Symlink, Readlink, Unlink, Rename}
+use Rattle.fs_model.specs.declared.call.Call.TheVariants.{Open as OpenCall, Stat, Lstat, Access, Truncate, Chmod, Chown, GetAcl, SetAcl, Mkdir, Rmdir, Link as LinkCall, Symlink, Readlink, Unlink, Rename}
 use Rattle.fs_model.specs.declared.event.Actor.{Actor}
 use Rattle.fs_model.specs.declared.walk.Form.{Form}
 use Rattle.fs_model.specs.Nodes.{Node, is_link}
 use Rattle.fs_model.specs.Trees.{Tree, node_at}
-use Rattle.fs_model.specs.Processes.{Process, new_process, standing_at}
+use Rattle.fs_model.specs.Processes.{Process, Openings, new_process, the_descriptor}
 use Rattle.fs_model.specs.Demands.{Demand, refuse, only_if}
+use Rattle.fs_model.specs.Scenes.{Effect}
+use Rattle.fs_model.specs.declared.reply.Reply.{Reply}
+use Rattle.fs_model.specs.declared.reply.Reply.TheVariants.{Opened, Made}
+use Rattle.fs_layout.specs.Maps.{with_entry}
+use Rattle.std.specs.Ordering.{nat_cmp}
 use Rattle.fs_model.specs.Parts.{is_empty, path_checks}
 
 -- at the root, with nothing open
 abbrev pub judged_as : Actor → Process
 judged_as actor = record (new_process actor.cred) { umask = actor.umask % 512 }
 
--- and where its paths start
-abbrev pub standing_as : Actor → Process
-standing_as actor = standing_at actor.start actor.second_start (judged_as actor)
+-- where walk k starts
+abbrev pub start_of_walk : Actor → ℕ → ℕ
+start_of_walk actor k = if k == 1 then actor.start else actor.second_start
 
--- Those by paths that leave the caller as it is: an actor has no descriptors, and nothing of it lasts.
+-- Those by paths but chdir: an actor has no descriptors, and nothing of it lasts but what it opens.
 abbrev pub is_actor_call : Call → Bool
+is_actor_call (OpenCall path flags mode) = true
 is_actor_call (Stat path) = true
 is_actor_call (Lstat path) = true
 is_actor_call (Access path want) = true
@@ -41,6 +49,15 @@ is_actor_call (Readlink path) = true
 is_actor_call (Unlink path) = true
 is_actor_call (Rename old new) = true
 is_actor_call _ = false
+
+-- those that change nothing, and show no byte of a file
+abbrev pub is_look : Call → Bool
+is_look (Stat path) = true
+is_look (Lstat path) = true
+is_look (Access path want) = true
+is_look (GetAcl path which) = true
+is_look (Readlink path) = true
+is_look _ = false
 
 -- an empty path leads to the object
 abbrev pub checks_from : List ℕ → List Demand
@@ -63,6 +80,18 @@ starts_at_end (walk ∷ _) = is_empty walk.1
 abbrev pub is_link_node : Option Node → Bool
 is_link_node None = false
 is_link_node (Some node) = is_link node.body
+
+-- what it opens it has by a handle
+abbrev pub opened_by : Call → ℕ → Process → Openings → Openings
+opened_by (OpenCall path flags mode) handle p openings = with_entry nat_cmp openings handle (the_descriptor p 0)
+opened_by _ handle p openings = openings
+
+-- what it opens and what it makes it is told the number of
+abbrev pub actor_reply : Call → ℕ → ℕ → Effect → Reply
+actor_reply (OpenCall path flags mode) handle n effect = Opened handle (the_descriptor effect.process 0).ino
+actor_reply (Mkdir path mode) handle n effect = Made n
+actor_reply (Symlink target path) handle n effect = Made n
+actor_reply _ handle n effect = effect.reply
 
 abbrev pub start_demands : Tree → Actor → Call → List (Form × List ℕ) → List Demand
 start_demands t actor call walks =

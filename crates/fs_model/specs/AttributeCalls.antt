@@ -16,7 +16,6 @@ use Rattle.fs_model.specs.declared.call.AclType.TheVariants.{Access, Default}
 use Rattle.fs_model.specs.declared.reply.Reply.{Reply}
 use Rattle.fs_model.specs.declared.reply.Reply.TheVariants.{Done, Shown, Granted, Acl, Mask}
 use Rattle.fs_model.specs.Nodes.{Node, Body, File, Dir, Link, is_directory, acl_in, default_in, with_acl, with_default, accessed}
-use Rattle.fs_model.specs.Processes.{standing_at}
 use Rattle.fs_model.specs.declared.touch.Touch.TheVariants.{Changed, Modified}
 use Rattle.fs_model.specs.Demands.{Demand, refuse, only_if, perms, allowed_by, search_on}
 use Rattle.fs_model.specs.declared.walk.Form.TheVariants.{Follow, NoFollow}
@@ -165,7 +164,7 @@ chdir_demands s =
     ∷ []
 
 abbrev pub chdir_effect : Scene → ℕ → Effect
-chdir_effect s new = with_process (standing_at (found_ino s.first) (found_ino s.first) s.process) Done
+chdir_effect s new = with_process (record s.process { cwd = found_ino s.first }) Done
 
 abbrev pub chdir_row : List ℕ → Row
 chdir_row path = by_path [] Follow path chdir_demands chdir_effect

@@ -1,5 +1,6 @@
 -- Calls on a descriptor: POSIX.1-2017, read(), write(), lseek(), close(), fstat(), ftruncate() and readdir().
 -- Permission was asked at open(); here it is asked what the descriptor was opened for.
+--     read_within, write_within        a read and a write of at most so many bytes
 --     read_row, write_row, lseek_row, close_row, fstat_row, ftruncate_row, readdir_row        each call
 --     shown        what is shown of a node
 use Rattle.std.specs.Prelude.{ℕ, ◌+◌, ◌-◌, ◌^◌, nat_lt, nat_le, min, not, List, [], ◌∷◌, length, take, drop, if◌then◌else◌, Option, None, Some, is_some, unwrap_or, ℤ, pos, negsuc, ◌+ℤ◌}
@@ -10,7 +11,7 @@ use Rattle.fs_model.specs.declared.call.Whence.{Whence}
 use Rattle.fs_model.specs.declared.call.Whence.TheVariants.{Set, Cur, End}
 use Rattle.fs_model.specs.declared.reply.Status.{Status}
 use Rattle.fs_model.specs.declared.reply.Reply.TheVariants.{Done, Data, Wrote, At, Shown, Names}
-use Rattle.fs_model.specs.Limits.{run_limit, write_limit, free_for}
+use Rattle.fs_model.specs.Limits.{move_limit, free_for}
 use Rattle.fs_layout.specs.Maps.{without}
 use Rattle.fs_model.specs.Nodes.{Node, is_directory, names_of_body, bytes_in, with_bytes, type_of, shown_mode, shown_size}
 use Rattle.fs_model.specs.Trees.{Tree, parent, names_of}
@@ -27,16 +28,19 @@ use Rattle.fs_model.specs.Scenes.{Scene, Effect, Row, node_open, is_bad, is_bad_
 abbrev pub read_demands : ℕ → Scene → List Demand
 read_demands fd s = refuse EISDIR (is_directory (node_open s fd).body) ∷ []
 
-abbrev pub read_bytes : Scene → ℕ → ℕ → List ℕ
-read_bytes s fd len = take (min len run_limit) (drop (the_descriptor s.process fd).offset (bytes_in (node_open s fd).body))
+abbrev pub read_bytes : ℕ → Scene → ℕ → ℕ → List ℕ
+read_bytes most s fd len = take (min len most) (drop (the_descriptor s.process fd).offset (bytes_in (node_open s fd).body))
 
-abbrev pub read_effect : ℕ → ℕ → Scene → Effect
-read_effect fd len s =
-    let bytes = read_bytes s fd len in
+abbrev pub read_effect : ℕ → ℕ → ℕ → Scene → Effect
+read_effect most fd len s =
+    let bytes = read_bytes most s fd len in
     with_process (with_offset s.process fd ((the_descriptor s.process fd).offset + length bytes)) (Data bytes)
 
+abbrev pub read_within : ℕ → ℕ → ℕ → Row
+read_within most fd len = by_descriptor (is_bad_to_read fd) (read_demands fd) (read_effect most fd len)
+
 abbrev pub read_row : ℕ → ℕ → Row
-read_row fd len = by_descriptor (is_bad_to_read fd) (read_demands fd) (read_effect fd len)
+read_row fd len = read_within move_limit fd len
 
 -- ---- write: from the offset, or from the end with O_APPEND; over the limit is cut off
 
@@ -45,25 +49,25 @@ write_offset s fd =
     let d = the_descriptor s.process fd in
     if d.append then length (bytes_in (node_open s fd).body) else d.offset
 
-abbrev pub write_count : Scene → ℕ → List ℕ → ℕ
-write_count s fd bytes = min (length bytes) (min write_limit (s.state.room.file_limit - write_offset s fd))
+abbrev pub write_count : ℕ → Scene → ℕ → List ℕ → ℕ
+write_count most s fd bytes = min (length bytes) (min most (s.state.room.file_limit - write_offset s fd))
 
 -- fewer data sectors are free than so many bytes may take
 abbrev pub no_blocks_for : ℕ → Scene → Demand
 no_blocks_for count s = refuse ENOSPC (nat_lt s.state.free (free_for count))
 
 -- to write nothing is never refused
-abbrev pub write_demands : ℕ → List ℕ → Scene → List Demand
-write_demands fd bytes s =
-    only_if (not (is_empty bytes)) (refuse EFBIG (nat_le s.state.room.file_limit (write_offset s fd)) ∷ no_blocks_for (length bytes) s ∷ [])
+abbrev pub write_demands : ℕ → ℕ → List ℕ → Scene → List Demand
+write_demands most fd bytes s =
+    only_if (not (is_empty bytes)) (refuse EFBIG (nat_le s.state.room.file_limit (write_offset s fd)) ∷ no_blocks_for (min (length bytes) most) s ∷ [])
 
 abbrev pub written : Node → ℕ → List ℕ → Node
 written node offset new = record node { body = with_bytes (overwritten (bytes_in node.body) offset new) node.body }
 
-abbrev pub write_effect : ℕ → List ℕ → Scene → Effect
-write_effect fd bytes s =
+abbrev pub write_effect : ℕ → ℕ → List ℕ → Scene → Effect
+write_effect most fd bytes s =
     let offset = write_offset s fd in
-    let count = write_count s fd bytes in
+    let count = write_count most s fd bytes in
     if is_empty bytes then answers s (Wrote 0)
     else record {
       change = Rewrite Modified (the_descriptor s.process fd).ino (written (node_open s fd) offset (take count bytes));
@@ -71,8 +75,11 @@ write_effect fd bytes s =
       reply = Wrote count;
     }
 
+abbrev pub write_within : ℕ → ℕ → List ℕ → Row
+write_within most fd bytes = by_descriptor (is_bad_to_write fd) (write_demands most fd bytes) (write_effect most fd bytes)
+
 abbrev pub write_row : ℕ → List ℕ → Row
-write_row fd bytes = by_descriptor (is_bad_to_write fd) (write_demands fd bytes) (write_effect fd bytes)
+write_row fd bytes = write_within move_limit fd bytes
 
 -- ---- lseek: an offset is from 0 to 2^63 - 1
 

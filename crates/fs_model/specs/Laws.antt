@@ -30,7 +30,7 @@ use Rattle.fs_layout.specs.Maps.{get, with_entry, IsMap}
 use Rattle.fs_model.specs.Nodes.{Node, is_link, names_of_body, sectors_of, type_of, accessed}
 use Rattle.fs_model.specs.Kinds.{kind_of_type, type_of_kind, access_kind}
 use Rattle.fs_model.specs.Trees.{Tree, Room, node_at, with_node, names_of, parent, sectors_needed, free_inodes, IsTree, IsDirectoryAt}
-use Rattle.fs_model.specs.Processes.{Process, ProcessTable, is_open}
+use Rattle.fs_model.specs.Processes.{Process, ProcessTable, Openings, users, is_open}
 use Rattle.fs_model.specs.TreeChanges.{pruned, swept}
 use Rattle.fs_model.specs.States.{State, MayBeFree, FitsTree, IsState}
 use Rattle.fs_model.specs.declared.walk.Form.{Form}
@@ -84,15 +84,17 @@ PruningKeeps = (room : Room) (t : Tree) → IsTree room t → IsTree room (prune
 abbrev pub StepsKeep : Type 0
 StepsKeep = (old new : State) (e : Event) (reply : Reply) → IsState old → IsEvent e → Step old e reply new → IsState new
 
--- A state whose processes fit its tree has nothing to be dropped.
+-- A state whose users fit its tree has nothing to be dropped.
 abbrev pub NothingToDrop : Type 0
-NothingToDrop = (room : Room) (t : Tree) (processes : ProcessTable) → IsTree room t → FitsTree t processes → swept t processes ≡ t
+NothingToDrop =
+    (room : Room) (t : Tree) (processes : ProcessTable) (openings : Openings) → IsTree room t → FitsTree t processes openings
+    → swept t (users processes openings) ≡ t
 
--- Nor is anything where the processes change and each node that was open is still open.
+-- Nor is anything where others use it and each node that was open is still open.
 abbrev pub OpenStays : Type 0
 OpenStays =
-    (room : Room) (t : Tree) (old new : ProcessTable) → IsTree room t → FitsTree t old
-    → ((n : ℕ) → IsTrue (is_open old n) → IsTrue (is_open new n)) → swept t new ≡ t
+    (room : Room) (t : Tree) (processes : ProcessTable) (openings : Openings) (new : ProcessTable) → IsTree room t → FitsTree t processes openings
+    → ((n : ℕ) → IsTrue (is_open (users processes openings) n) → IsTrue (is_open new n)) → swept t new ≡ t
 
 -- A process that is written back as it is leaves the table of processes as it is.
 abbrev pub SameProcessStays : Type 0

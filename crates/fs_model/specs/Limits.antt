@@ -3,11 +3,10 @@
 --     path_limit, links_limit        PATH_MAX less 1, SYMLOOP_MAX
 --     target_limit        SYMLINK_MAX
 --     descriptors_limit, processes_limit        OPEN_MAX, CHILD_MAX
---     move_limit        bytes in one read, and in one write, of a script
---     run_limit        bytes in one read: a run of 32 moves
---     write_limit        bytes in one write: a run of four moves
+--     move_limit        bytes in one read, and in one write, of a process
+--     handle_read_limit, handle_write_limit        bytes in one read by a handle, and in one write
 --     least_free        free data sectors without which nothing is taken
---     run_free        free data sectors without which no more than a move is written
+--     much_free        free data sectors without which no more than a move is written
 --     free_for        how many have to be free for a write of so many bytes
 --     root        the number of the root's inode
 use Rattle.std.specs.Prelude.{ℕ, nat_le, if◌then◌else◌}
@@ -33,20 +32,20 @@ processes_limit = 64
 abbrev pub move_limit : ℕ
 move_limit = 4096
 
-abbrev pub run_limit : ℕ
-run_limit = 131072
+abbrev pub handle_read_limit : ℕ
+handle_read_limit = 1048576
 
-abbrev pub write_limit : ℕ
-write_limit = 16384
+abbrev pub handle_write_limit : ℕ
+handle_write_limit = 16384
 
 abbrev pub least_free : ℕ
 least_free = 16
 
-abbrev pub run_free : ℕ
-run_free = 40
+abbrev pub much_free : ℕ
+much_free = 40
 
 abbrev pub free_for : ℕ → ℕ
-free_for count = if nat_le count move_limit then least_free else run_free
+free_for count = if nat_le count move_limit then least_free else much_free
 
 abbrev pub root : ℕ
 root = ROOT

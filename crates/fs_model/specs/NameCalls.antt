@@ -9,7 +9,7 @@ use Rattle.fs_model.specs.declared.reply.Reply.TheVariants.{Target}
 use Rattle.fs_model.specs.Limits.{target_limit}
 use Rattle.fs_model.specs.Nodes.{is_link, target_in}
 use Rattle.fs_model.specs.Trees.{names_of}
-use Rattle.fs_model.specs.Processes.{is_in_use}
+use Rattle.fs_model.specs.Processes.{users, is_in_use}
 use Rattle.fs_model.specs.Births.{born_directory, born_link}
 use Rattle.fs_model.specs.TreeChanges.{Make, AddName, TakeName}
 use Rattle.fs_model.specs.Demands.{Demand, refuse, or_else}
@@ -41,7 +41,7 @@ rmdir_demands s =
     ∷ permission_at_dir s s.first 1
     ∷ sticky_at_dir s s.first 1
     ∷ refuse ENOTDIR (is_nondirectory_found s s.first)
-    ∷ refuse EBUSY (is_in_use s.state.processes (found_ino s.first))
+    ∷ refuse EBUSY (is_in_use (users s.state.processes s.state.openings) (found_ino s.first))
     ∷ refuse ENOTEMPTY (has_names s s.first)
     ∷ []
 

@@ -2,13 +2,14 @@
 -- Description).
 --     Descriptor, Process, ProcessTable        an open file; a process; all processes
 --     new_process, IsNewPid        a process as it begins, and its number
---     cwd_of, standing_at        where its walks start
 --     descriptor, the_descriptor, with_descriptor, with_offset, least_unused        one descriptor of a process
---     is_open, starts_at, is_in_use        who uses a node
+--     Openings, process_holding        what actors have opened; who has it
+--     users        all who use nodes
+--     is_open, is_in_use        who uses a node
 use Rattle.std.specs.Prelude.{◌≡◌, ℕ, ◌+◌, ◌≤◌, ◌==◌, Bool, false, ◌||◌, List, [], ◌∷◌, if◌then◌else◌, Option, None, unwrap_or}
 use Rattle.std.specs.List.{list_any}
 use Rattle.std.specs.Ordering.{nat_cmp}
-use Rattle.fs_cred.specs.Credentials.{Credential}
+use Rattle.fs_cred.specs.Credentials.{Credential, usual_credential}
 use Rattle.fs_model.specs.Limits.{root, processes_limit}
 use Rattle.fs_layout.specs.Maps.{get, with_entry}
 
@@ -24,8 +25,6 @@ pub record Process : Type 0 where
   pub cred : Credential
   pub umask : ℕ
   pub cwd : ℕ
-  -- where the second path of rename and link starts
-  pub second_cwd : ℕ
   pub descriptors : List (ℕ × Descriptor)
 
 -- the processes by their numbers
@@ -34,19 +33,11 @@ ProcessTable = List (ℕ × Process)
 
 -- our own rule: at the root, with umask 022 and nothing open
 abbrev pub new_process : Credential → Process
-new_process cred = record { cred = cred; umask = 18; cwd = root; second_cwd = root; descriptors = [] }
+new_process cred = record { cred = cred; umask = 18; cwd = root; descriptors = [] }
 
 -- our own rule: a new process gets a number from 1 to 64 that no process has
 abbrev pub IsNewPid : ProcessTable → ℕ → Type 0
 IsNewPid processes pid = (1 ≤ pid) × (pid ≤ processes_limit) × (get nat_cmp processes pid ≡ None)
-
--- the directory in which walk k starts, where its path isn't absolute
-abbrev pub cwd_of : Process → ℕ → ℕ
-cwd_of p k = if k == 1 then p.cwd else p.second_cwd
-
--- the process stands in a directory, and its second walks start at another
-abbrev pub standing_at : ℕ → ℕ → Process → Process
-standing_at directory second p = record p { cwd = directory; second_cwd = second }
 
 abbrev pub descriptor : Process → ℕ → Option Descriptor
 descriptor p fd = get nat_cmp p.descriptors fd
@@ -69,14 +60,26 @@ abbrev pub least_unused : {X : Type 0} → ℕ → List (ℕ × X) → ℕ
 least_unused k [] = k
 least_unused k (e ∷ es) = if e.0 == k then least_unused (k + 1) es else k
 
+-- ---- what actors have opened
+
+-- by the handles
+abbrev pub Openings : Type 0
+Openings = List (ℕ × Descriptor)
+
+-- Who is no process, and has these open. Nothing is asked of its credential.
+abbrev pub process_holding : List (ℕ × Descriptor) → Process
+process_holding descriptors = record (new_process (usual_credential 65534 65534 [])) { descriptors = descriptors }
+
+-- the processes, and before them one who has all that actors have opened; the numbers aren't read
+abbrev pub users : ProcessTable → Openings → ProcessTable
+users processes openings = (0, process_holding openings) ∷ processes
+
+-- ---- who uses a node
+
 -- some descriptor is for n
 abbrev pub is_open : ProcessTable → ℕ → Bool
 is_open processes n = list_any (λ p. list_any (λ d. d.1.ino == n) p.1.descriptors) processes
 
--- one of its walks starts at n
-abbrev pub starts_at : ℕ → Process → Bool
-starts_at n p = p.cwd == n || p.second_cwd == n
-
--- our own rule: the directory n is the root, where walks of a process start, or open
+-- our own rule: the directory n is the root, the current one of a process, or open
 abbrev pub is_in_use : ProcessTable → ℕ → Bool
-is_in_use processes n = n == root || list_any (λ p. starts_at n p.1) processes || is_open processes n
+is_in_use processes n = n == root || list_any (λ p. p.1.cwd == n) processes || is_open processes n

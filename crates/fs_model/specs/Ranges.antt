@@ -1,13 +1,15 @@
 -- Events whose numbers lie in the ranges of their types.
---     IsCall, IsEvent        each number fits, paths and contents are bytes, and ACLs and credentials are valid
+--     IsCall, IsHandleCall, IsEvent        each number fits, paths and contents are bytes, and ACLs and credentials are valid
 use Rattle.std.specs.Prelude.{ℕ, ◌^◌, ◌<◌, Option, None, Some, ℤ, pos, negsuc}
 use Rattle.fs_cred.specs.Credentials.{IsCredential}
 use Rattle.fs_layout.specs.Bytes.{IsBytes}
 use Rattle.posix_acl.specs.AccessList.{IsSomeAcl}
 use Rattle.fs_model.specs.declared.call.Call.{Call}
 use Rattle.fs_model.specs.declared.call.Call.TheVariants.{Open, Read, Write, Lseek, Close, Fstat, Stat, Lstat, Access, Truncate, Ftruncate, Chmod, Chown, GetAcl, SetAcl, Readdir, Mkdir, Rmdir, Link, Symlink, Readlink, Unlink, Rename, Chdir, Umask}
+use Rattle.fs_model.specs.declared.event.HandleCall.{HandleCall}
+use Rattle.fs_model.specs.declared.event.HandleCall.TheVariants.{Read as ReadBy, Write as WriteBy, Resize, Show, List as ListBy, Close as CloseBy}
 use Rattle.fs_model.specs.declared.event.Event.{Event}
-use Rattle.fs_model.specs.declared.event.Event.TheVariants.{Spawn, Exit, Call as Calls, CallAt, Enter, Stamp, Clock, Fsync, Sync, Statfs, Arm, Restart}
+use Rattle.fs_model.specs.declared.event.Event.TheVariants.{Spawn, Exit, Call as Calls, CallAt, CallBy, Stamp, Clock, Fsync, Sync, Statfs, Arm, Restart}
 
 abbrev pub IsSomeId : Option ℕ → Type 0
 IsSomeId None = Unit {0}
@@ -49,13 +51,20 @@ IsCall (Rename old new) = IsBytes old × IsBytes new
 IsCall (Chdir path) = IsBytes path
 IsCall (Umask mask) = mask < 2 ^ 16
 
+abbrev pub IsHandleCall : HandleCall → Type 0
+IsHandleCall (ReadBy offset len) = (offset < 2 ^ 64) × (len < 2 ^ 64)
+IsHandleCall (WriteBy offset bytes) = (offset < 2 ^ 64) × IsBytes bytes
+IsHandleCall (Resize size) = size < 2 ^ 64
+IsHandleCall Show = Unit {0}
+IsHandleCall ListBy = Unit {0}
+IsHandleCall CloseBy = Unit {0}
+
 abbrev pub IsEvent : Event → Type 0
 IsEvent (Spawn cred) = IsCredential cred
 IsEvent (Exit pid) = pid < 2 ^ 64
 IsEvent (Calls pid call) = (pid < 2 ^ 64) × IsCall call
-IsEvent (CallAt actor call) =
-    IsCredential actor.cred × (actor.umask < 2 ^ 16) × (actor.start < 2 ^ 32) × (actor.second_start < 2 ^ 32) × IsCall call
-IsEvent (Enter pid directory second) = (pid < 2 ^ 64) × (directory < 2 ^ 32) × (second < 2 ^ 32)
+IsEvent (CallAt actor call) = IsCredential actor.cred × (actor.umask < 2 ^ 16) × (actor.start < 2 ^ 32) × (actor.second_start < 2 ^ 32) × IsCall call
+IsEvent (CallBy handle handle_call) = (handle < 2 ^ 64) × IsHandleCall handle_call
 IsEvent (Stamp n atime mtime ctime) = (n < 2 ^ 32) × IsSomeCount atime × IsSomeCount mtime × IsSomeCount ctime
 IsEvent (Clock now) = now < 2 ^ 64
 IsEvent (Fsync pid fd) = (pid < 2 ^ 64) × (fd < 2 ^ 64)

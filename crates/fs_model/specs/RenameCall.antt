@@ -5,7 +5,7 @@
 use Rattle.std.specs.Prelude.{ℕ, ◌==◌, Bool, true, false, not, ◌&&◌, ◌||◌, List, [], ◌∷◌, ◌++◌, length, if◌then◌else◌}
 use Rattle.fs_cred.specs.declared.errno.Errno.TheVariants.{EBUSY, ENOTDIR, EISDIR, EINVAL, ENOTEMPTY}
 use Rattle.fs_model.specs.Trees.{is_within}
-use Rattle.fs_model.specs.Processes.{is_in_use}
+use Rattle.fs_model.specs.Processes.{users, is_in_use}
 use Rattle.fs_model.specs.TreeChanges.{Same, MoveName}
 use Rattle.fs_model.specs.Demands.{Demand, refuse, only_if, perms}
 use Rattle.fs_model.specs.Scenes.{Scene, Effect, Row, is_found, found_ino, is_directory_found, is_nondirectory_found, has_names, ends_top, ends_dot, ends_dot_dot, permission_at_end, permission_at_dir, sticky_at_dir, no_blocks, no_names, must_be_there, changes, by_two_paths}
@@ -45,7 +45,7 @@ rename_kinds s =
 abbrev pub rename_directories : Scene → List Demand
 rename_directories s =
     refuse EINVAL (is_directory_found s s.first && is_within (length s.state.tree) s.state.tree (found_ino s.first) s.second.dir_ino)
-    ∷ refuse EBUSY (is_directory_found s s.second && is_in_use s.state.processes (found_ino s.second))
+    ∷ refuse EBUSY (is_directory_found s s.second && is_in_use (users s.state.processes s.state.openings) (found_ino s.second))
     ∷ refuse ENOTEMPTY (is_found s.second && has_names s s.second)
     ∷ []
 

@@ -13,12 +13,13 @@ use Rattle.fs_layout.specs.declared.slot.TheConstants.{MAX_NAME}
 use Rattle.fs_layout.specs.Maps.{get, IsMap}
 use Rattle.fs_model.specs.Nodes.{Node, is_link, is_directory}
 use Rattle.fs_model.specs.Trees.{Tree, Room, node_at, names_of, sectors_needed, IsTree, IsDirectoryAt}
-use Rattle.fs_model.specs.Processes.{ProcessTable, Process, Descriptor, is_open}
+use Rattle.fs_model.specs.Processes.{ProcessTable, Process, Descriptor, Openings, users, is_open}
 
 pub record State : Type 0 where
   pub room : Room
   pub tree : Tree
   pub processes : ProcessTable
+  pub openings : Openings
   pub free : ℕ
   -- the time as it was told last
   pub now : ℕ
@@ -52,20 +53,21 @@ pub record IsProcess (t : Tree) (p : Process) : Type 0 where
   pub cred : IsCredential p.cred
   pub umask : p.umask < 512
   pub cwd : IsDirectoryAt t p.cwd
-  pub second_cwd : IsDirectoryAt t p.second_cwd
   pub descriptors : IsMap nat_cmp p.descriptors
   pub each : (fd : ℕ) (d : Descriptor) → get nat_cmp p.descriptors fd ≡ Some d → IsDescriptor t fd d
 
--- processes fit the tree, and what has no name is the root or is open
-pub record FitsTree (t : Tree) (processes : ProcessTable) : Type 0 where
+-- processes and what actors have opened fit the tree, and what has no name is the root or is open
+pub record FitsTree (t : Tree) (processes : ProcessTable) (openings : Openings) : Type 0 where
   pub each_process : (pid : ℕ) (p : Process) → get nat_cmp processes pid ≡ Some p → IsProcess t p
-  pub nameless : (n : ℕ) (node : Node) → node_at t n ≡ Some node → names_of t n ≡ 0 → n ≢ root → IsTrue (is_open processes n)
+  pub each_opening : (handle : ℕ) (d : Descriptor) → get nat_cmp openings handle ≡ Some d → IsDescriptor t 0 d
+  pub nameless : (n : ℕ) (node : Node) → node_at t n ≡ Some node → names_of t n ≡ 0 → n ≢ root → IsTrue (is_open (users processes openings) n)
 
 pub record IsState (s : State) : Type 0 where
   pub room : IsRoom s.room
   pub tree : IsTree s.room s.tree
   pub pids : IsMap nat_cmp s.processes
   pub few : length s.processes ≤ processes_limit
+  pub handles : IsMap nat_cmp s.openings
   pub free : MayBeFree s.room s.tree s.free
   pub now : s.now < 2 ^ 64
-  pub processes : IsFalse s.halted → FitsTree s.tree s.processes
+  pub processes : IsFalse s.halted → FitsTree s.tree s.processes s.openings

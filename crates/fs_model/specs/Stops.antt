@@ -60,9 +60,9 @@ pub record Halts (old : State) (e : Event) (new : State) (choice : Choice) : Typ
   pub halted : IsTrue new.halted
   pub acts : Acts old e choice
 
--- what a stop leaves: one of the trees, pruned, and no process
+-- what a stop leaves: one of the trees, pruned, no process, and nothing open
 abbrev pub stopped : State → Tree → ℕ → State
-stopped s t free = record { room = s.room; tree = pruned t; processes = []; free = free; now = 0; halted = false }
+stopped s t free = record { room = s.room; tree = pruned t; processes = []; openings = []; free = free; now = 0; halted = false }
 
 pub record Stops (m : Machine) (s : State) : Type 0 where
   pub tree : Tree

@@ -95,7 +95,7 @@ abbrev pub touched : ℕ → List (ℕ × Touch) → Tree → Tree
 touched now [] t = t
 touched now (e ∷ es) t = touched now es (restamped (touch_one now e) t)
 
--- ---- what is dropped
+-- ---- what is dropped, where these use nodes
 
 -- a file lives as long as it is open; nothing else but the root lives without a name
 abbrev pub lives_nameless : ProcessTable → ℕ → Body → Bool

@@ -15,6 +15,23 @@ pub struct Actor {
     pub second_start: u32,
 }
 
+/// What is done by a handle. Permission was asked when it was opened.
+#[derive(Drop)]
+pub enum HandleCall {
+    /// At most so many bytes, from an offset on.
+    Read { offset: u64, len: usize },
+    /// Bytes, from an offset on.
+    Write { offset: u64, bytes: Bytes },
+    /// The file gets this size.
+    Resize(u64),
+    /// What stat(2) shows.
+    Show,
+    /// The names in a directory.
+    List,
+    /// The handle goes.
+    Close,
+}
+
 /// What comes to a file system and its disk.
 #[derive(Drop)]
 pub enum Event {
@@ -25,15 +42,10 @@ pub enum Event {
     /// The process with this number makes a call.
     Call(usize, Call),
     /// A call by someone who is no process. A path that isn't absolute starts at the object that is given, and an empty one leads to
-    /// that object, as with AT_EMPTY_PATH of openat(2).
+    /// that object, as with AT_EMPTY_PATH of openat(2). What it opens stays open under a handle.
     CallAt(Actor, Call),
-    /// The process with this number stands in a directory from now on, and the second path of its rename and link starts at
-    /// another. Nothing is asked of its permissions.
-    Enter {
-        pid: usize,
-        dir_ino: u32,
-        second_ino: u32,
-    },
+    /// What is done by the handle with this number, whoever has it.
+    CallBy(u64, HandleCall),
     /// The times of a node are set to those that are given, and answered as they are then. It is trusted: nothing is asked of
     /// anyone's permissions.
     Stamp {

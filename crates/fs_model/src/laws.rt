@@ -2,14 +2,15 @@
 ghost use Rattle.fs_cred.specs.Laws.{HasAnAnswer, HasOneAnswer, VerdictDecides};
 ghost use Rattle.fs_model.specs.Laws.{AccessKindsAgree, CountsFit, EffectsAnswerOtherwise, FindingRefuses, FindsAreThere, FirmRefusesOtherwise, FollowedAreNoLinks, FreeAreClear, NewDiskStands, NewImagesExist, NoneRefuses, NothingToDrop, NumbersAreCounts, ObeyingStands, OneFinding, OneNodeChanges, OpenStays, OtherRefusesOtherwise, PruningKeeps, RefusesLeast, RewritingKeeps, SameProcessStays, SomeImageStands, StandingObeys, StandingRests, StandingRestsOnReading, StandsForOne, StandsInVersion, StepsKeep, StoredKindsAgree, SyncingKeeps, TypesComeBack, WalksRefuseOtherwise};
 ghost use Rattle.fs_model.specs.Confinement.{Confinement, GoneIsRefused, StepsAreBy, StepsBy};
-ghost use Rattle.fs_model.specs.Outsiders.{AlikeToCredentials, ActorRunsConfined, ActorsConfined, ActorsKeepAlike};
-ghost use Rattle.fs_model.specs.Ranges.{IsSomeId, IsCall};
+ghost use Rattle.fs_model.specs.Handles.{ClosedIsGone, HandlesStay, OpenedIs};
+ghost use Rattle.fs_model.specs.Outsiders.{AlikeToCredentials, HandlesStayOpen, ListingRunsConfined, ListingsKeepAlike, OpensAreOthers, OthersKeepAlike, OutsiderRunsConfined, OutsidersConfined, ActorsKeepAlike};
+ghost use Rattle.fs_model.specs.Ranges.{IsSomeId, IsCall, IsHandleCall};
 ghost use Rattle.fs_model.specs.Reading.{ReadingKeeps, SyncKeeps};
-ghost use Rattle.fs_model.specs.Runs.{RunsAreRefusedAlike, RunsOfMoves, RunsOfWrites};
 ghost use Rattle.fs_model.specs.ActorLaws.{LinksAskAsBefore, ActorsCallAsProcesses, ActorsFollow};
 ghost use Rattle.posix_acl.specs.AccessList.{IsSomeAcl};
 
 use crate::call::Call;
+use crate::event::HandleCall;
 use posix_acl::Acl;
 
 /// Whoever wants whatever of whatever file or directory, there is exactly one answer with its rule.
@@ -86,6 +87,18 @@ pub fn call_is_in_range(call: &Call)
         Call::Link { old, new } | Call::Rename { old, new } => read((old.bytes(), new.bytes())),
         Call::Symlink { target, path } => read((target.bytes(), path.bytes())),
         Call::Umask(mask) => read(*mask),
+    }
+}
+
+/// And what is done by a handle.
+pub fn handle_call_is_in_range(handle_call: &HandleCall)
+    ensures { IsHandleCall handle_call.now }
+{
+    match handle_call {
+        HandleCall::Read { offset, len } => read((*offset, *len)),
+        HandleCall::Write { offset, bytes } => read((*offset, bytes.bytes())),
+        HandleCall::Resize(size) => read(*size),
+        HandleCall::Show | HandleCall::List | HandleCall::Close => {}
     }
 }
 
@@ -220,26 +233,28 @@ pub fn actors_call_as_processes()
     ensures links { LinksAskAsBefore }
 {}
 
-/// What someone can't see into has no part in what actors with the same credential are answered, now or later, from whichever objects
-/// their paths start. Someone is a process, or who has nothing but a credential. What is alike to a process stays so where an actor with
-/// its credential calls, and is alike to the credential: with nothing open no more is seen.
-pub fn unreadable_bytes_do_not_show_to_actors()
-    ensures one { ActorsConfined }
-    ensures runs { ActorRunsConfined }
+/// What someone outside can't see into, who has a credential and the handles that it was answered, has no part in what its actors and
+/// what it does by its handles are answered, now or later, from whichever objects they start, and
+/// whatever others look at in between. While its handles are open, others may also open what is there, list directories, and close
+/// handles that are none of its own: these are answered alike too. Its handles stay open until it closes them, and what others open
+/// is none of them. What is alike to a process stays so where
+/// its credential actors, and is alike to the credential: with nothing open no more is seen.
+pub fn unreadable_bytes_do_not_show_outside()
+    ensures one { OutsidersConfined }
+    ensures runs { OutsiderRunsConfined }
+    ensures others { OthersKeepAlike }
+    ensures listings { ListingsKeepAlike }
+    ensures several { ListingRunsConfined }
+    ensures stay { HandlesStayOpen }
+    ensures apart { OpensAreOthers }
     ensures keeps { ActorsKeepAlike }
     ensures alike { AlikeToCredentials }
 {}
 
-/// A read of many bytes, up to a run of 32 moves, means reads of its parts, one after another, however it is parted: the same bytes
-/// and the same state behind the last, where one that is short is the last. And what refuses it refuses each of them.
-pub fn runs_of_moves()
-    ensures means { RunsOfMoves }
-    ensures refused { RunsAreRefusedAlike }
-{}
-
-/// What a write of many bytes does, up to a run of four moves, writes of its parts may do, one after another, however it is parted: as
-/// many bytes in all, and the same state behind the last. One that is short, or is refused since the file has reached its limit, is
-/// the last.
-pub fn runs_of_writes()
-    ensures { RunsOfWrites }
+/// What is answered to an open is a handle that nobody has, and the number of the object. What is open by it stays so, whoever does
+/// what, until it is closed; then it is none any more.
+pub fn handles_stay()
+    ensures opened { OpenedIs }
+    ensures stay { HandlesStay }
+    ensures gone { ClosedIsGone }
 {}

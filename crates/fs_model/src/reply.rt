@@ -92,6 +92,10 @@ pub enum Reply {
     Pid(usize),
     /// What was opened has this descriptor.
     Fd(usize),
+    /// What an actor opened has this handle, and this number.
+    Opened { handle: u64, ino: u32 },
+    /// What an actor made has this number.
+    Made(u32),
     /// Bytes that were read.
     Data(Bytes),
     /// So many bytes were written.

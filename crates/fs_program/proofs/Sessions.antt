@@ -79,11 +79,11 @@ module _ {K L : Type 0} (Does : K → Exchange → K → Type 0) (Shows : L → 
     serves_seen settings first last before after (Ok done) s = served_seen settings first last before after s
     serves_seen settings first last before after (Err fault) s = faulted_seen settings fault first last before s
 
-    pub fuse_ends_seen : (disk : D) (own_rules : Bool) (before after : K) (result : Result Status Failure)
-        → FuseEnds state Does disk own_rules before after result → FuseEnds state Shows disk own_rules (seen before) (seen after) result
-    fuse_ends_seen disk own_rules before after result (cannot_begin fault is) = cannot_begin fault is
-    fuse_ends_seen disk own_rules before after result (cannot_mount now fault is_not is) = cannot_mount now fault is_not is
-    fuse_ends_seen disk own_rules before after result (has_served served reply s is) = has_served served reply (record {
+    pub fuse_ends_seen : (disk : D) (own_rules : Bool) (commit : ℕ) (before after : K) (result : Result Status Failure)
+        → FuseEnds state Does disk own_rules commit before after result → FuseEnds state Shows disk own_rules commit (seen before) (seen after) result
+    fuse_ends_seen disk own_rules commit before after result (cannot_begin fault is) = cannot_begin fault is
+    fuse_ends_seen disk own_rules commit before after result (cannot_mount now fault is_not is) = cannot_mount now fault is_not is
+    fuse_ends_seen disk own_rules commit before after result (has_served served reply s is) = has_served served reply (record {
       start = s.start;
       begun = seen s.begun;
       sees = shown before s.begun (SeesTime s.start) s.sees;
@@ -92,37 +92,37 @@ module _ {K L : Type 0} (Does : K → Exchange → K → Type 0) (Shows : L → 
       is_first = s.is_first;
       mounts = s.mounts;
       last = s.last;
-      serves = serves_seen (settings_of s.first.geometry own_rules s.start) s.first s.last s.begun after served s.serves;
+      serves = serves_seen (settings_of s.first.geometry own_rules commit s.start) s.first s.last s.begun after served s.serves;
       left = s.left;
       unmounts = s.unmounts;
     }) is
 
-    pub image_fuse_ends_seen : (denials : Option (List ℕ)) (own_rules : Bool) (before after : K) (result : Result Status Failure)
-        → ImageFuseEnds state Does denials own_rules before after result → ImageFuseEnds state Shows denials own_rules (seen before) (seen after) result
-    image_fuse_ends_seen denials own_rules before after result (has_nothing_to_serve is) = has_nothing_to_serve is
-    image_fuse_ends_seen denials own_rules before after result (has_no_list some is) = has_no_list some is
-    image_fuse_ends_seen denials own_rules before after result (serves disk fresh ends) =
-        serves disk fresh (fuse_ends_seen disk own_rules before after result ends)
+    pub image_fuse_ends_seen : (denials : Option (List ℕ)) (own_rules : Bool) (commit : ℕ) (before after : K) (result : Result Status Failure)
+        → ImageFuseEnds state Does denials own_rules commit before after result → ImageFuseEnds state Shows denials own_rules commit (seen before) (seen after) result
+    image_fuse_ends_seen denials own_rules commit before after result (has_nothing_to_serve is) = has_nothing_to_serve is
+    image_fuse_ends_seen denials own_rules commit before after result (has_no_list some is) = has_no_list some is
+    image_fuse_ends_seen denials own_rules commit before after result (serves disk fresh ends) =
+        serves disk fresh (fuse_ends_seen disk own_rules commit before after result ends)
 
 -- An image that was served to a kernel which learns by what is shown of processes.
 pub fuse_job_ends : {D K S : Type 0} (state : D → DiskState) (Does : K → Exchange → K → Type 0) (Shows : S → Showing → S → Type 0)
-    (denials : Option (List ℕ)) (own_rules : Bool) (before after : K) (result : Result Status Failure)
-    → ImageFuseEnds state Does denials own_rules before after result → (processes_of : K → S)
+    (denials : Option (List ℕ)) (own_rules : Bool) (commit : ℕ) (before after : K) (result : Result Status Failure)
+    → ImageFuseEnds state Does denials own_rules commit before after result → (processes_of : K → S)
     → ((old new : K) (x : Exchange) → Does old x new → LearnsBy Shows (processes_of old) x (processes_of new)) → (processes : S)
-    → processes_of before ≡ processes → FuseJobEnds state Shows processes denials own_rules result
-fuse_job_ends {D} {K} {S} state Does Shows denials own_rules before after result ends processes_of learns processes same = (
+    → processes_of before ≡ processes → FuseJobEnds state Shows processes denials own_rules commit result
+fuse_job_ends {D} {K} {S} state Does Shows denials own_rules commit before after result ends processes_of learns processes same = (
   processes_of after,
-  subst (λ (p : S). ImageFuseEnds state (LearnsBy Shows) denials own_rules p (processes_of after) result) same
-      (image_fuse_ends_seen Does (LearnsBy Shows) processes_of learns state denials own_rules before after result ends),
+  subst (λ (p : S). ImageFuseEnds state (LearnsBy Shows) denials own_rules commit p (processes_of after) result) same
+      (image_fuse_ends_seen Does (LearnsBy Shows) processes_of learns state denials own_rules commit before after result ends),
 )
 
 -- a disk that was mounted, served from and unmounted
 pub serves_on : {D K : Type 0} (state : D → DiskState) (Does : K → Exchange → K → Type 0) (disk left : D) (first last : System D) (own_rules : Bool)
-    (before begun after : K) (start : Time) (settings : Settings) (served : Result (Unit {0}) ServeFault) (reply : Reply)
+    (commit : ℕ) (before begun after : K) (start : Time) (settings : Settings) (served : Result (Unit {0}) ServeFault) (reply : Reply)
     → Does before (SeesTime start) begun → (m : (s : State) × IsIn state first s × Mounts (state disk) (disk_in state first.base) s)
-    → settings ≡ settings_of first.geometry own_rules start → ServingEnds state Does settings first last begun after served
-    → HappensLast state last left Sync reply → ServesOn state Does disk own_rules before after served reply
-serves_on state Does disk left first last own_rules before begun after start settings served reply sees m is ends unmounts = record {
+    → settings ≡ settings_of first.geometry own_rules commit start → ServingEnds state Does settings first last begun after served
+    → HappensLast state last left Sync reply → ServesOn state Does disk own_rules commit before after served reply
+serves_on state Does disk left first last own_rules commit before begun after start settings served reply sees m is ends unmounts = record {
   start = start;
   begun = begun;
   sees = sees;

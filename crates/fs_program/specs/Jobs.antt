@@ -1,5 +1,5 @@
 -- How the jobs end, and with which status.
---     ended        the status of a job
+--     status_at_end        the status of a job
 --     IsUndone        a job isn't done, and nothing is printed
 --     Tells        a line is printed, and the status is this one; or it can't be printed
 --     IsOfRule, HasChecked        a finding is one of the rules'; a check has found something on a disk that has not failed
@@ -67,9 +67,9 @@ use Rattle.fs_command.specs.declared.words.WordsFault.{WordsFault}
 -- ---- statuses
 
 -- each failure is the same status
-abbrev pub ended : Result Status Failure → Status
-ended (Ok status) = status
-ended (Err failure) = Failed
+abbrev pub status_at_end : Result Status Failure → Status
+status_at_end (Ok status) = status
+status_at_end (Err failure) = Failed
 
 -- a run: that of its lines, or it ended early
 abbrev pub run_status : Result Count RunFault → Status
@@ -237,8 +237,8 @@ JobEnds memory file part held remaining Shows processes r w (Run image script) r
 JobEnds memory file part held remaining Shows processes r w (Check image explain) result = ImageCheckEnds file part held explain w result
 JobEnds memory file part held remaining Shows processes r w (InfoJob image json) result = ImageInfoEnds file json w result
 JobEnds memory file part held remaining Shows processes r w (Upgrade image) result = ImageUpgradeEnds file w result
-JobEnds memory file part held remaining Shows processes r w (Fuse image denials own_rules) result =
-    FuseJobEnds file Shows processes denials own_rules result
+JobEnds memory file part held remaining Shows processes r w (Fuse image denials own_rules commit) result =
+    FuseJobEnds file Shows processes denials own_rules commit result
 
 -- ---- the program
 
@@ -247,7 +247,7 @@ pub data ProgramEnds {M D P F S : Type 0} (memory : M → DiskState) (file : D �
     (remaining : F → Option (List ℕ)) (Shows : S → Showing → S → Type 0) (words : List (List ℕ)) (processes : S) (r : Reading) (w : Writing) (code : ℕ)
     : Type 0 where
   does_job : (job : Job) (result : Result Status Failure) → AsksFor words job → JobEnds memory file part held remaining Shows processes r w job result
-      → code ≡ code_of (ended result) → ProgramEnds memory file part held remaining Shows words processes r w code
+      → code ≡ code_of (status_at_end result) → ProgramEnds memory file part held remaining Shows words processes r w code
   -- the help, the version, or what is wrong is printed
   refuses : (fault : WordsFault) → Refuses words fault → code ≡ code_of (words_status fault)
       → ProgramEnds memory file part held remaining Shows words processes r w code

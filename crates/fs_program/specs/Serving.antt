@@ -29,9 +29,9 @@ use Rattle.fs_command.specs.declared.status.Status.{Status}
 use Rattle.fs_command.specs.declared.status.Status.TheVariants.{Done, Failed}
 
 -- Writes have up to 1 MiB. With its own rules the kernel judges no ACLs. All data sectors and all inodes are shown, and how long a
--- name may be. The disk keeps times where its version does.
-abbrev pub settings_of : Geometry → Bool → Time → Settings
-settings_of geometry own_rules start = record {
+-- name may be. The disk keeps times where its version does. So many seconds after all was kept a request has it kept first; 0: none does.
+abbrev pub settings_of : Geometry → Bool → ℕ → Time → Settings
+settings_of geometry own_rules commit start = record {
   max_write = 1048576;
   posix_acl = not own_rules;
   keeping = usually_kept;
@@ -40,6 +40,7 @@ settings_of geometry own_rules start = record {
   max_name = max_name geometry.version;
   keeps_times = keeps_times geometry.version;
   start = start;
+  commit = commit;
 }
 
 abbrev pub served_status : Result (Unit {0}) ServeFault → Status
@@ -48,7 +49,7 @@ served_status (Err fault) = Failed
 
 -- A disk was mounted; the kernel's requests were served from its file system, until the end or a fault, and are one history of it
 -- either way; and then that was unmounted. The unmount makes all stable, as sync does.
-pub record ServesOn {D K : Type 0} (state : D → DiskState) (Does : K → Exchange → K → Type 0) (disk : D) (own_rules : Bool)
+pub record ServesOn {D K : Type 0} (state : D → DiskState) (Does : K → Exchange → K → Type 0) (disk : D) (own_rules : Bool) (commit : ℕ)
     (before after : K) (served : Result (Unit {0}) ServeFault) (reply : Reply) : Type 0 where
   pub start : Time
   pub begun : K
@@ -58,29 +59,29 @@ pub record ServesOn {D K : Type 0} (state : D → DiskState) (Does : K → Excha
   pub is_first : IsIn state first s
   pub mounts : Mounts (state disk) (disk_in state first.base) s
   pub last : System D
-  pub serves : ServingEnds state Does (settings_of first.geometry own_rules start) first last begun after served
+  pub serves : ServingEnds state Does (settings_of first.geometry own_rules commit start) first last begun after served
   pub left : D
   pub unmounts : HappensLast state last left Sync reply
 
 -- A disk is to be served.
-pub data FuseEnds {D K : Type 0} (state : D → DiskState) (Does : K → Exchange → K → Type 0) (disk : D) (own_rules : Bool)
+pub data FuseEnds {D K : Type 0} (state : D → DiskState) (Does : K → Exchange → K → Type 0) (disk : D) (own_rules : Bool) (commit : ℕ)
     (before after : K) (result : Result Status Failure) : Type 0 where
   -- memory is lacking, or the time isn't known
-  cannot_begin : (fault : ServeFault) → result ≡ Err (failures.Serve fault) → FuseEnds state Does disk own_rules before after result
+  cannot_begin : (fault : ServeFault) → result ≡ Err (failures.Serve fault) → FuseEnds state Does disk own_rules commit before after result
   cannot_mount : (now : D) (fault : MountFault) → IsNotMounted (state disk) (state now) fault → result ≡ Err (failures.Mount fault)
-      → FuseEnds state Does disk own_rules before after result
-  has_served : (served : Result (Unit {0}) ServeFault) (reply : Reply) → ServesOn state Does disk own_rules before after served reply
-      → result ≡ unmount_end (served_status served) reply → FuseEnds state Does disk own_rules before after result
+      → FuseEnds state Does disk own_rules commit before after result
+  has_served : (served : Result (Unit {0}) ServeFault) (reply : Reply) → ServesOn state Does disk own_rules commit before after served reply
+      → result ≡ unmount_end (served_status served) reply → FuseEnds state Does disk own_rules commit before after result
 
 -- The image is to be served; denials are written to a file, if one is named.
-pub data ImageFuseEnds {D K : Type 0} (state : D → DiskState) (Does : K → Exchange → K → Type 0) (denials : Option (List ℕ)) (own_rules : Bool)
-    (before after : K) (result : Result Status Failure) : Type 0 where
-  has_nothing_to_serve : result ≡ Err failures.NotOpened → ImageFuseEnds state Does denials own_rules before after result
-  has_no_list : IsSome denials → result ≡ Err failures.NoDenials → ImageFuseEnds state Does denials own_rules before after result
-  serves : (disk : D) → IsFresh (state disk) (state disk).seen → FuseEnds state Does disk own_rules before after result
-      → ImageFuseEnds state Does denials own_rules before after result
+pub data ImageFuseEnds {D K : Type 0} (state : D → DiskState) (Does : K → Exchange → K → Type 0) (denials : Option (List ℕ))
+    (own_rules : Bool) (commit : ℕ) (before after : K) (result : Result Status Failure) : Type 0 where
+  has_nothing_to_serve : result ≡ Err failures.NotOpened → ImageFuseEnds state Does denials own_rules commit before after result
+  has_no_list : IsSome denials → result ≡ Err failures.NoDenials → ImageFuseEnds state Does denials own_rules commit before after result
+  serves : (disk : D) → IsFresh (state disk) (state disk).seen → FuseEnds state Does disk own_rules commit before after result
+      → ImageFuseEnds state Does denials own_rules commit before after result
 
 -- It is served at the streams of a process, of which nothing is known but that who asks is who was shown.
-abbrev pub FuseJobEnds : {D S : Type 0} → (D → DiskState) → (S → Showing → S → Type 0) → S → Option (List ℕ) → Bool → Result Status Failure → Type 0
-FuseJobEnds {D} {S} state Shows processes denials own_rules result =
-    (after : S) × ImageFuseEnds state (LearnsBy Shows) denials own_rules processes after result
+abbrev pub FuseJobEnds : {D S : Type 0} → (D → DiskState) → (S → Showing → S → Type 0) → S → Option (List ℕ) → Bool → ℕ → Result Status Failure → Type 0
+FuseJobEnds {D} {S} state Shows processes denials own_rules commit result =
+    (after : S) × ImageFuseEnds state (LearnsBy Shows) denials own_rules commit processes after result

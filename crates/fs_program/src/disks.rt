@@ -5,7 +5,7 @@ ghost use Rattle.std.specs.Io.KnownBytes.{Appends};
 ghost use Rattle.sector_disk.specs.Disk.{LeavesOnly, OnlyReads};
 ghost use Rattle.fs_layout.specs.Geometry.{IsGeometry, the_geometry};
 ghost use Rattle.fs_images.specs.Upgrading.{IsHalfUpgraded};
-ghost use Rattle.fs_program.specs.Jobs.{IsOfRule, IsCheckTold, MkfsEnds, RunEnds, CheckEnds, InfoEnds, UpgradeEnds, ended, run_status};
+ghost use Rattle.fs_program.specs.Jobs.{IsOfRule, IsCheckTold, MkfsEnds, RunEnds, CheckEnds, InfoEnds, UpgradeEnds, status_at_end, run_status};
 ghost use Rattle.fs_program.specs.Streams.{reading, writing};
 ghost use Rattle.fs_program.specs.Unmounts.{unmount_end};
 ghost use Rattle.fs_system.specs.Replies.{unmounted};
@@ -35,7 +35,7 @@ pub(crate) fn tell<E: Write>(err: &mut E, failure: &Failure) -> Status
 
 /// The status of a job that has ended so. Why it wasn't done is printed.
 pub(crate) fn finish<E: Write>(outcome: Result<Status, Failure>, err: &mut E) -> Status
-    ensures { result ≡ ended outcome }
+    ensures { result ≡ status_at_end outcome }
 {
     match outcome {
         Ok(status) => status,

@@ -136,9 +136,18 @@ fn perform_job<
             image,
             denials,
             own_rules,
+            commit,
         } => {
             let mut kernel = Standard::new(rt, processes, input, out);
-            serve_image(rt, image, denials.as_ref(), *own_rules, &mut kernel, err)
+            serve_image(
+                rt,
+                image,
+                denials.as_ref(),
+                *own_rules,
+                *commit,
+                &mut kernel,
+                err,
+            )
         }
     }
 }
@@ -341,10 +350,11 @@ fn serve_image<R: Files<File: DiskFile> + AllocGlobal + RandomSource, K: Kernel,
     image: &Text,
     denials: Option<&Text>,
     own_rules: bool,
+    commit: u32,
     kernel: &mut K,
     err: &mut E,
 ) -> Result<Status, Failure>
-    ensures { ImageFuseEnds ⟦<FileDisk<R::File> as Disk>⟧.state K.Does (option_copied denials.entry) own_rules
+    ensures { ImageFuseEnds ⟦<FileDisk<R::File> as Disk>⟧.state K.Does (option_copied denials.entry) own_rules commit
         kernel.old kernel.new result }
 {
     let disk = open_image(rt, image)?;
@@ -354,6 +364,7 @@ fn serve_image<R: Files<File: DiskFile> + AllocGlobal + RandomSource, K: Kernel,
         disk,
         random_salt(rt),
         own_rules,
+        commit,
         kernel,
         &mut witness,
         err,

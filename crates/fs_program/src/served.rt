@@ -39,8 +39,8 @@ impl Rooms {
 }
 
 // What is agreed on with the kernel, and what is shown of the whole file system.
-fn settings_of(geometry: Geometry, own_rules: bool, start: Time) -> Settings
-    ensures { result ≡ settings_of geometry own_rules start }
+fn settings_of(geometry: Geometry, own_rules: bool, commit: u32, start: Time) -> Settings
+    ensures { result ≡ settings_of geometry own_rules commit start }
 {
     Settings {
         max_write: MAX_WRITE,
@@ -51,6 +51,7 @@ fn settings_of(geometry: Geometry, own_rules: bool, start: Time) -> Settings
         max_name: geometry.version.max_name() as u32,
         keeps_times: geometry.version.keeps_times(),
         start,
+        commit,
     }
 }
 
@@ -61,11 +62,12 @@ pub(crate) fn serve_on_disk<D: Disk + Drop, K: Kernel, W: Witness, E: Write>(
     disk: D,
     salt: u64,
     own_rules: bool,
+    commit: u32,
     kernel: &mut K,
     witness: &mut W,
     err: &mut E,
 ) -> Result<Status, Failure>
-    ensures { FuseEnds D.state K.Does disk own_rules kernel.old kernel.new result }
+    ensures { FuseEnds D.state K.Does disk own_rules commit kernel.old kernel.new result }
 {
     let Ok(mut rooms) = Rooms::new(alloc) else {
         return Err(Failure::Serve(ServeFault::OutOfMemory));
@@ -78,7 +80,7 @@ pub(crate) fn serve_on_disk<D: Disk + Drop, K: Kernel, W: Witness, E: Write>(
         Ok(fs) => fs,
         Err((fault, _)) => return Err(Failure::Mount(fault)),
     };
-    let settings = settings_of(fs.geometry(), own_rules, start);
+    let settings = settings_of(fs.geometry(), own_rules, commit, start);
     let Rooms { request, reply } = &mut rooms;
     let (served, fs) = serve_requests(alloc, fs, settings, kernel, witness, request, reply);
     let (_, errno) = fs.unmount();

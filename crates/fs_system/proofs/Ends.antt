@@ -1,4 +1,5 @@
 -- What an event comes to: a state, and what was done to the disk.
+use Rattle.call_parts.specs.BothTables.{Tables}
 use Rattle.std.proofs.Common.{◌≡◌, ◌≤◌, ℕ, Bool, true, false, None, IsTrue, refl, sym, ap, subst, ◌∙◌, arith, inl, inr}
 use Rattle.std.specs.Prelude.{IsFalse, ◌&&◌}
 use Rattle.sector_disk.specs.Disk.{DiskState, Image, IsImage, IsSame, LeavesOnly, OnlyReads, HasFailed, HasFailedToWrite}
@@ -14,7 +15,6 @@ use Rattle.fs_model.specs.declared.reply.Reply.TheVariants.{Done, Space, Refused
 use Rattle.fs_model.specs.declared.event.Event.{Event}
 use Rattle.fs_model.specs.declared.event.Event.TheVariants.{Statfs}
 use Rattle.fs_model.specs.Trees.{Tree, Room, IsTree, free_inodes}
-use Rattle.fs_model.specs.Processes.{ProcessTable}
 use Rattle.fs_model.specs.States.{State, IsState}
 use Rattle.fs_model.specs.Steps.{Step, is_of_machine, firm_refusal}
 use Rattle.fs_model.specs.Stops.{asks_stable, makes_stable, is_io_error}
@@ -103,35 +103,35 @@ module _ (disk : DiskState) (only_now : (image : Image) → disk.left_since disk
 
 -- ---- maps with the same data
 
-pub tree_held : (p : Geometry) (map : SectorMap) (processes : ProcessTable) (s : State) → IsStateOf p map processes s → HoldsCounted p map s.tree s.free
-tree_held p map processes s at =
+pub tree_held : (p : Geometry) (map : SectorMap) (tables : Tables) (s : State) → IsStateOf p map tables s → HoldsCounted p map s.tree s.free
+tree_held p map tables s at =
     record { holds = at.holds; tree_is = subst (λ (r : Room). IsTree r s.tree) at.same_room at.is_state.tree; free_is = at.free_is }
 
-pub running_same : (size size' : ℕ) (p : Geometry) (old new : SectorMap) (processes processes' : ProcessTable) (s : State) → size' ≡ size → SameMap new old → processes' ≡ processes
-    → IsRunning size p old processes s → IsRunning size' p new processes' s
-running_same size size' p old new processes processes' s sized same tabled r =
-    let held = holds_same size p old new s.tree s.free same r.disk_is (tree_held p old processes s r.state_of) in
+pub running_same : (size size' : ℕ) (p : Geometry) (old new : SectorMap) (tables tables' : Tables) (s : State) → size' ≡ size → SameMap new old → tables' ≡ tables
+    → IsRunning size p old tables s → IsRunning size' p new tables' s
+running_same size size' p old new tables tables' s sized same tabled r =
+    let held = holds_same size p old new s.tree s.free same r.disk_is (tree_held p old tables s r.state_of) in
     record {
       disk_is = subst (λ n. IsDiskOf n p new) (sym sized) (disk_same size p old new same r.disk_is);
       state_of = record {
         is_state = r.state_of.is_state;
         up = r.state_of.up;
-        same_processes = r.state_of.same_processes ∙ sym tabled;
+        same_tables = r.state_of.same_tables ∙ sym tabled;
         same_room = r.state_of.same_room;
         holds = held.holds;
         free_is = held.free_is;
       };
     }
 
--- a running system with other processes
-pub running_with : (size : ℕ) (p : Geometry) (map : SectorMap) (processes processes' : ProcessTable) (s : State) → IsState (record s { processes = processes' })
-    → IsRunning size p map processes s → IsRunning size p map processes' (record s { processes = processes' })
-running_with size p map processes processes' s is r = record {
+-- a running system with other tables
+pub running_with : (size : ℕ) (p : Geometry) (map : SectorMap) (tables tables' : Tables) (s : State) → IsState (record s { processes = tables'.processes; openings = tables'.openings })
+    → IsRunning size p map tables s → IsRunning size p map tables' (record s { processes = tables'.processes; openings = tables'.openings })
+running_with size p map tables tables' s is r = record {
   disk_is = r.disk_is;
   state_of = record {
     is_state = is;
     up = r.state_of.up;
-    same_processes = refl;
+    same_tables = refl;
     same_room = r.state_of.same_room;
     holds = r.state_of.holds;
     free_is = r.state_of.free_is;
@@ -139,14 +139,14 @@ running_with size p map processes processes' s is r = record {
 }
 
 -- a running system at another time
-pub running_at : (size : ℕ) (p : Geometry) (map : SectorMap) (processes : ProcessTable) (time : ℕ) (s : State) → IsState (record s { now = time })
-    → IsRunning size p map processes s → IsRunning size p map processes (record s { now = time })
-running_at size p map processes time s is r = record {
+pub running_at : (size : ℕ) (p : Geometry) (map : SectorMap) (tables : Tables) (time : ℕ) (s : State) → IsState (record s { now = time })
+    → IsRunning size p map tables s → IsRunning size p map tables (record s { now = time })
+running_at size p map tables time s is r = record {
   disk_is = r.disk_is;
   state_of = record {
     is_state = is;
     up = r.state_of.up;
-    same_processes = r.state_of.same_processes;
+    same_tables = r.state_of.same_tables;
     same_room = r.state_of.same_room;
     holds = r.state_of.holds;
     free_is = r.state_of.free_is;
@@ -155,20 +155,20 @@ running_at size p map processes time s is r = record {
 
 -- ---- what a flush leaves may be mounted
 
-pub flush_mountable : (old new : DiskState) (p : Geometry) (map : SectorMap) (processes : ProcessTable) (s : State) → IsRunning old.size p map processes s
+pub flush_mountable : (old new : DiskState) (p : Geometry) (map : SectorMap) (tables : Tables) (s : State) → IsRunning old.size p map tables s
     → LeavesOldOr map old new → ((t : ℕ) (image : Image) → t ≤ new.moment → IsImage new image → new.left_since t image) → EachStandsForSome old → EachStandsForSome new
-flush_mountable old new p map processes s r run counts_now may =
-    let held = tree_held p map processes s r.state_of in
+flush_mountable old new p map tables s r run counts_now may =
+    let held = tree_held p map tables s r.state_of in
     mountable_then old new s s.tree counts_now may
     (leaves_found p map map s s.tree s.free old new r.state_of.same_room r.state_of.up r.disk_is held r.disk_is held run)
 
 -- ---- sync and fsync, from a store whose map is `map` on the disk `old`
 
-module _ (old new : DiskState) (p : Geometry) (map : SectorMap) (processes : ProcessTable) (s : State) (r : IsRunning old.size p map processes s)
+module _ (old new : DiskState) (p : Geometry) (map : SectorMap) (tables : Tables) (s : State) (r : IsRunning old.size p map tables s)
     (run : LeavesOldOr map old new) (later : old.failures ≤ new.failures) (e : Event) (asks : IsTrue (asks_stable e)) (firm : firm_refusal s e ≡ None) where
   flush_images : LeavesOnly old new (IsFound old s s.tree)
   flush_images =
-      let held = tree_held p map processes s r.state_of in
+      let held = tree_held p map tables s r.state_of in
       leaves_found p map map s s.tree s.free old new r.state_of.same_room r.state_of.up r.disk_is held r.disk_is held run
 
   pub does_flush : EachReadsAs map new → new.failed_writes ≡ old.failed_writes → Does old new s e Done s
@@ -178,7 +178,7 @@ module _ (old new : DiskState) (p : Geometry) (map : SectorMap) (processes : Pro
     is_added = inl refl;
     images = flush_images;
     synced = λ stable. subst (λ (q : Room). EachStandsFor q new s.tree) (sym r.state_of.same_room)
-        (each_stands p map s.tree s.free new (subst (λ n. IsDiskOf n p map) (sym run.size) r.disk_is) (tree_held p map processes s r.state_of) lasting);
+        (each_stands p map s.tree s.free new (subst (λ n. IsDiskOf n p map) (sym run.size) r.disk_is) (tree_held p map tables s r.state_of) lasting);
     cause = λ io up. absurd cc;
     halts = λ up halted. absurd (let c = sym up ∙ halted in cc);
     unhalted = λ up. quiet;
@@ -205,7 +205,7 @@ module _ (old new : DiskState) (p : Geometry) (map : SectorMap) (processes : Pro
 -- ---- statfs
 
 module _ (old new : DiskState) (only_now : (image : Image) → old.left_since old.moment image → IsImage old image) (reads : OnlyReads old new)
-    (size : ℕ) (p : Geometry) (map : SectorMap) (processes : ProcessTable) (s : State) (r : IsRunning size p map processes s) where
+    (size : ℕ) (p : Geometry) (map : SectorMap) (tables : Tables) (s : State) (r : IsRunning size p map tables s) where
   -- where these are the numbers
   pub does_told : (sectors inodes : ℕ) → s.free ≡ sectors → free_inodes s.room s.tree ≡ inodes → Does old new s Statfs (Space sectors inodes) s
   does_told sectors inodes all numbers =

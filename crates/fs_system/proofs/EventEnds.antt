@@ -1,4 +1,5 @@
 -- What an event comes to that was performed in a transaction.
+use Rattle.call_parts.specs.BothTables.{Tables, users_of}
 use Rattle.std.proofs.Common.{◌≡◌, ◌≤◌, ℕ, true, refl, sym, ap, ◌∙◌, arith, inl, inr, ⊎_elim}
 use Rattle.sector_disk.specs.Disk.{DiskState, Image, IsImage, LeavesOnly, OnlyReads, HasFailed, HasFailedToWrite}
 use Rattle.sector_disk.proofs.Moments.{failed_later}
@@ -18,7 +19,6 @@ use Rattle.fs_layout.proofs.Places.{geometry_is_laid_out}
 use Rattle.fs_model.specs.declared.event.Event.{Event}
 use Rattle.fs_model.specs.declared.reply.Reply.{Reply}
 use Rattle.fs_model.specs.declared.reply.Reply.TheVariants.{Refused}
-use Rattle.fs_model.specs.Processes.{ProcessTable}
 use Rattle.fs_model.specs.Stands.{placed}
 use Rattle.fs_model.specs.States.{State}
 use Rattle.call_parts.specs.Performing.{MayPerform, IsStateOf}
@@ -32,9 +32,9 @@ use Rattle.fs_system.proofs.Soundness.{outside_set}
 
 -- ---- a transaction that has put nothing is ready
 
-pub begins_ready : (p : Geometry) (txn : TxnState) (processes : ProcessTable) (s : State) → txn.header ≡ header_of (txn.sectors 0) → txn.room ≡ max_delta txn.header → IsRunning txn.disk.size p txn.sectors processes s
-    → MayPerform p txn processes
-begins_ready p txn processes s header room r =
+pub begins_ready : (p : Geometry) (txn : TxnState) (tables : Tables) (s : State) → txn.header ≡ header_of (txn.sectors 0) → txn.room ≡ max_delta txn.header → IsRunning txn.disk.size p txn.sectors tables s
+    → MayPerform p txn tables
+begins_ready p txn tables s header room r =
     let sectors : p.sectors ≡ txn.disk.size = ap (λ (q : Geometry). q.sectors) (geometry_is_laid_out txn.disk.size r.disk_is.super.inodes r.disk_is.has_geometry) in
     let there = header ∙ header_there r.disk_is.super (txn.sectors 0) txn.disk.size r.disk_is.super_fits r.disk_is.super_is r.disk_is.has_geometry in
     let ends = ap log_end header ∙ log_there r.disk_is.super (txn.sectors 0) txn.disk.size r.disk_is.super_fits r.disk_is.super_is r.disk_is.has_geometry in
@@ -60,18 +60,18 @@ write_failed_later old mid new none failed = ⊎_elim (λ more. inl (omega (arit
 -- ---- one event, from a store whose map is `map` on the disk `old`
 
 module _ (old : DiskState) (only_now : (image : Image) → old.left_since old.moment image → IsImage old image)
-    (p : Geometry) (map : SectorMap) (processes : ProcessTable) (s : State) (r : IsRunning old.size p map processes s) (e : Event) where
+    (p : Geometry) (map : SectorMap) (tables : Tables) (s : State) (r : IsRunning old.size p map tables s) (e : Event) where
   -- the event acts, on a map with the same data, and the commit leaves `new`
   module _ (before now_map : SectorMap) (same : SameMap before map) (super : now_map 0 ≡ before 0)
       (mid new : DiskState) (reads : OnlyReads old mid) (run : LeavesOneOf before now_map mid new) (later : mid.failures ≤ new.failures)
-      (now : ProcessTable) (reply : Reply) (at : IsStateOf p before processes s) (d : IsPerformed p now_map now s e reply) where
+      (now : Tables) (reply : Reply) (at : IsStateOf p before tables s) (d : IsPerformed p now_map now s e reply) where
     now_disk : IsDiskOf old.size p now_map
     now_disk = disk_kept old.size p before now_map super (disk_same old.size p map before same r.disk_is)
 
-    images : LeavesOnly old new (IsFound old s (tree_then s d.change now))
+    images : LeavesOnly old new (IsFound old s (tree_then s d.change (users_of now)))
     images =
-        leaves_found p map now_map s (tree_then s d.change now) _ old new r.state_of.same_room r.state_of.up
-        r.disk_is (tree_held p map processes s r.state_of) now_disk (done_holds at d) (after_reads only_now reads (maps_same same (λ n part. refl) run))
+        leaves_found p map now_map s (tree_then s d.change (users_of now)) _ old new r.state_of.same_room r.state_of.up
+        r.disk_is (tree_held p map tables s r.state_of) now_disk (done_holds at d) (after_reads only_now reads (maps_same same (λ n part. refl) run))
 
     pub event_runs : (size : ℕ) (map' : SectorMap) → size ≡ old.size → SameMap map' now_map → IsRunning size p map' now (done_state at d)
     event_runs size map' sized alike =
@@ -80,7 +80,7 @@ module _ (old : DiskState) (only_now : (image : Image) → old.left_since old.mo
     pub does_event : new.failed_writes ≡ mid.failed_writes → Does old new s e reply (done_state at d)
     does_event quiet = record {
       serves = done_steps at d;
-      added = tree_then s d.change now;
+      added = tree_then s d.change (users_of now);
       is_added = inl refl;
       images = images;
       synced = λ stable. absurd (let c = sym (done_unstable at d reply) ∙ stable in cc);
@@ -92,10 +92,10 @@ module _ (old : DiskState) (only_now : (image : Image) → old.left_since old.mo
       still = λ halted. absurd (let c = sym r.state_of.up ∙ halted in cc);
     }
 
-    pub does_halt : HasFailed mid new → HasFailedToWrite mid new → Does old new s e (Refused (Failed EIO)) (record s { processes = now; halted = true })
+    pub does_halt : HasFailed mid new → HasFailedToWrite mid new → Does old new s e (Refused (Failed EIO)) (record s { processes = now.processes; openings = now.openings; halted = true })
     does_halt failed unwritten = record {
       serves = done_halts at d;
-      added = tree_then s d.change now;
+      added = tree_then s d.change (users_of now);
       is_added = inr (_, halts at d, sym (done_tree at d));
       images = images;
       synced = λ stable. absurd (let c = sym (done_unstable at d (Refused (Failed EIO))) ∙ stable in cc);

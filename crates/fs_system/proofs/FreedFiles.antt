@@ -26,7 +26,7 @@ use Rattle.fs_model.proofs.PlacedClosings.{close_drop_held}
 use Rattle.fs_model.proofs.PlacedNodes.{same_placed, placed_from, placed_none, placed_stays}
 use Rattle.fs_model.proofs.StepsSwept.{tree_may_be_swept}
 use Rattle.fs_model.proofs.Swept.{DropsNoNames, stays, kept_from, get-filter, names_of-filter, sweep_keeps}
-use Rattle.fs_model.proofs.Unchanged.{fitting_stays, root_directory, nothing_to_drop}
+use Rattle.fs_model.proofs.Unchanged.{fitting_stays, root_directory, open_stays}
 use Rattle.path_walk.specs.HeldTrees.{HoldsTree}
 use Rattle.path_walk.proofs.HeldNodes.{held_node}
 use Rattle.path_walk.proofs.Kept.{kept}
@@ -67,13 +67,14 @@ pub named_first : (room : Room) (t : Tree) → IsTree room t → IsNamedBelow 2 
 named_first room t is n node at none ne = let positive = (is.each n node at).positive in omega (arith, positive, ne)
 
 pub named_all : (room : Room) (t : Tree) (k : ℕ) → IsTree room t → room.inodes ≤ k → IsNamedBelow k t → pruned t ≡ t
-named_all room t k is all named = nothing_to_drop room t [] is (record {
+named_all room t k is all named = open_stays room t [] [] [] is (record {
   each_process = λ pid q there. absurd cc;
+  each_opening = λ handle d there. absurd cc;
   nameless = λ n node at none ne.
       let low = (is.each n node at).below in
       let high = named n node at none ne in
       absurd (omega (arith, low, high, all));
-})
+}) (λ n still. still)
 
 -- ---- a table in which all is open but for one number
 

@@ -1,4 +1,5 @@
 -- One event in a transaction that is begun on a store: its changes are kept, or dropped.
+use Rattle.call_parts.specs.BothTables.{Tables}
 use Rattle.std.proofs.Common.{◌≡◌, ◌≤◌, true, false, Result, Ok, Err, IsTrue, inl, inr, refl, sym, ap, subst, ◌∙◌, arith}
 use Rattle.std.specs.Prelude.{IsFalse}
 use Rattle.sector_disk.specs.Disk.{DiskState, Image, IsImage, OnlyReads, HasCause, HasFailed, HasFailedToWrite}
@@ -15,7 +16,6 @@ use Rattle.sector_txn.proofs.Images.{maps_same}
 use Rattle.fs_model.specs.declared.event.Event.{Event}
 use Rattle.fs_model.specs.declared.reply.Reply.{Reply}
 use Rattle.fs_model.specs.declared.reply.Reply.TheVariants.{Refused}
-use Rattle.fs_model.specs.Processes.{ProcessTable}
 use Rattle.fs_model.specs.States.{State}
 use Rattle.fs_model.specs.Steps.{Step}
 use Rattle.fs_model.specs.Stops.{makes_stable, is_io_error}
@@ -63,20 +63,20 @@ cause_from (Err e) reads cause =
 
 -- ---- events
 
-module _ {D : Type 0} (state : D → DiskState) (p : Geometry) (store : StoreView D) (processes : ProcessTable) (begun : TxnView D) (disk : begun.disk ≡ store.disk)
+module _ {D : Type 0} (state : D → DiskState) (p : Geometry) (store : StoreView D) (tables : Tables) (begun : TxnView D) (disk : begun.disk ≡ store.disk)
     (map : SameMap (map_now state begun) (present state store)) (before : SameMap (map_before state begun) (present state store)) where
   -- the event may be performed
-  pub begins : (s : State) → IsRunning (state store.disk).size p (present state store) processes s
+  pub begins : (s : State) → IsRunning (state store.disk).size p (present state store) tables s
       → (txn_state state begun).header ≡ header_of ((txn_state state begun).sectors 0) → (txn_state state begun).room ≡ max_delta (txn_state state begun).header
-      → MayPerform p (txn_state state begun) processes
+      → MayPerform p (txn_state state begun) tables
   begins s r header room =
-      begins_ready p (txn_state state begun) processes s header room
-      (running_same (state store.disk).size (state begun.disk).size p (present state store) (map_now state begun) processes processes s (ap (λ d. (state d).size) disk) map refl r)
+      begins_ready p (txn_state state begun) tables s header room
+      (running_same (state store.disk).size (state begun.disk).size p (present state store) (map_now state begun) tables tables s (ap (λ d. (state d).size) disk) map refl r)
 
   -- the map is of the state that the store was in
-  pub state_begun : (s : State) → IsRunning (state store.disk).size p (present state store) processes s → IsStateOf p (map_now state begun) processes s
+  pub state_begun : (s : State) → IsRunning (state store.disk).size p (present state store) tables s → IsStateOf p (map_now state begun) tables s
   state_begun s r =
-      (running_same (state store.disk).size (state store.disk).size p (present state store) (map_now state begun) processes processes s refl map refl r).state_of
+      (running_same (state store.disk).size (state store.disk).size p (present state store) (map_now state begun) tables tables s refl map refl r).state_of
 
   module _ (last : TxnView D) (same : SameStore (txn_state state begun) (txn_state state last)) where
     -- the transaction began with the store's map
@@ -87,10 +87,10 @@ module _ {D : Type 0} (state : D → DiskState) (p : Geometry) (store : StoreVie
     before_is_begun = same_chain (map_before state last) (present state store) (map_now state begun) before_is_store (same_back (map_now state begun) (present state store) map)
 
     -- one was performed
-    module _ (s : State) (r : IsRunning (state store.disk).size p (present state store) processes s)
+    module _ (s : State) (r : IsRunning (state store.disk).size p (present state store) tables s)
         (only_now : (image : Image) → (state store.disk).left_since (state store.disk).moment image → IsImage (state store.disk) image)
-        (super : map_now state last 0 ≡ map_now state begun 0) (now : ProcessTable) (e : Event) (reply : Reply)
-        (performed : IsStateOf p (map_now state begun) processes s → IsPerformed p (map_now state last) now s e reply) where
+        (super : map_now state last 0 ≡ map_now state begun 0) (now : Tables) (e : Event) (reply : Reply)
+        (performed : IsStateOf p (map_now state begun) tables s → IsPerformed p (map_now state last) now s e reply) where
       d : IsPerformed p (map_now state last) now s e reply
       d = performed (state_begun s r)
 
@@ -109,12 +109,12 @@ module _ {D : Type 0} (state : D → DiskState) (p : Geometry) (store : StoreVie
       kept_does after alike images later quiet = (
         done_state (state_begun s r) d,
         (
-          event_runs (state store.disk) only_now p (present state store) processes s r e (map_now state begun) (map_now state last) map super
+          event_runs (state store.disk) only_now p (present state store) tables s r e (map_now state begun) (map_now state last) map super
               (state last.disk) (state after.disk) reads (run (state after.disk) images) later now reply (state_begun s r) d
               (state after.disk).size (present state after) (images.size ∙ reads.narrowed.size) alike,
           refl,
         ),
-        does_event (state store.disk) only_now p (present state store) processes s r e (map_now state begun) (map_now state last) map super
+        does_event (state store.disk) only_now p (present state store) tables s r e (map_now state begun) (map_now state last) map super
             (state last.disk) (state after.disk) reads (run (state after.disk) images) later now reply (state_begun s r) d quiet,
       )
 
@@ -124,26 +124,26 @@ module _ {D : Type 0} (state : D → DiskState) (p : Geometry) (store : StoreVie
           → HasFailedToWrite (state last.disk) (state broken) → (told : Reply) → told ≡ Refused (Failed EIO)
           → (t : State) × IsOn state p s.now now (Halted broken) t × Does (state store.disk) (state broken) s e told t
       broken_does broken images later failed unwritten told is = (
-        record s { processes = now; halted = true },
+        record s { processes = now.processes; openings = now.openings; halted = true },
         refl,
-        subst (λ (q : Reply). Does (state store.disk) (state broken) s e q (record s { processes = now; halted = true })) (sym is)
-            (does_halt (state store.disk) only_now p (present state store) processes s r e (map_now state begun) (map_now state last) map super
+        subst (λ (q : Reply). Does (state store.disk) (state broken) s e q (record s { processes = now.processes; openings = now.openings; halted = true })) (sym is)
+            (does_halt (state store.disk) only_now p (present state store) tables s r e (map_now state begun) (map_now state last) map super
             (state last.disk) (state broken) reads (run (state broken) images) later now reply (state_begun s r) d failed unwritten),
       )
 
     -- nothing was kept: it goes on in its state
     pub runs_on : (after : StoreView D) → after.disk ≡ last.disk → SameMap (present state after) (map_before state last) → (s : State)
-        → IsRunning (state store.disk).size p (present state store) processes s → (now : ProcessTable) → now ≡ processes
+        → IsRunning (state store.disk).size p (present state store) tables s → (now : Tables) → now ≡ tables
         → IsRunning (state after.disk).size p (present state after) now s
     runs_on after dropped back s r now tabled =
-        running_same (state store.disk).size (state after.disk).size p (present state store) (present state after) processes now s
+        running_same (state store.disk).size (state after.disk).size p (present state store) (present state after) tables now s
         (reads_alone state store begun disk before last same after.disk dropped).narrowed.size (same_chain (present state after) (map_before state last) (present state store) back before_is_store) tabled r
 
     -- it was refused, and why is said of the two disks
     pub refused_does : (after : StoreView D) → after.disk ≡ last.disk → SameMap (present state after) (map_before state last) → (s : State)
-        → IsRunning (state store.disk).size p (present state store) processes s → (now : ProcessTable) → now ≡ processes
+        → IsRunning (state store.disk).size p (present state store) tables s → (now : Tables) → now ≡ tables
         → ((image : Image) → (state store.disk).left_since (state store.disk).moment image → IsImage (state store.disk) image)
-        → (P : DiskState → DiskState → Type 0) → (IsStateOf p (map_now state begun) processes s → P (state begun.disk) (state last.disk))
+        → (P : DiskState → DiskState → Type 0) → (IsStateOf p (map_now state begun) tables s → P (state begun.disk) (state last.disk))
         → (e : Event) (reply : Reply) → ((old new : DiskState) → IsFalse s.halted → P old new → Step s e reply s) → makes_stable e reply ≡ false
         → ((old new : DiskState) → P old new → IsTrue (is_io_error reply) → HasFailed old new)
         → (t : State) × IsOn state p s.now now (Running after) t × Does (state store.disk) (state after.disk) s e reply t

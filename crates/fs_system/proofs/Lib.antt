@@ -3,7 +3,6 @@ pub mod Checked
 pub mod Confined
 pub mod Endings
 pub mod Ends
-pub mod Entered
 pub mod EventEnds
 pub mod Forgetting
 pub mod FreedFiles

@@ -20,7 +20,8 @@ use Rattle.fs_model.specs.declared.reply.Reply.{Reply}
 use Rattle.fs_model.specs.declared.reply.Reply.TheVariants.{Done, Refused}
 use Rattle.fs_model.specs.declared.event.Event.{Event}
 use Rattle.fs_model.specs.declared.event.Event.TheVariants.{Spawn, Clock, Fsync, Sync}
-use Rattle.fs_model.specs.Processes.{Process, ProcessTable, Descriptor, new_process, IsNewPid, descriptor}
+use Rattle.call_parts.specs.BothTables.{Tables, both, tables_in}
+use Rattle.fs_model.specs.Processes.{Process, Openings, Descriptor, new_process, IsNewPid, descriptor, ProcessTable}
 use Rattle.fs_model.specs.States.{State, IsState}
 use Rattle.fs_model.specs.Steps.{Step, is_of_machine, firm_refusal}
 use Rattle.fs_model.specs.Stops.{is_io_error}
@@ -30,7 +31,7 @@ use Rattle.fs_system.specs.Mounting.{IsSystem, is_halted}
 use Rattle.fs_system.specs.declared.base.Base.{Base}
 use Rattle.fs_system.specs.declared.base.Base.TheVariants.{Running, Halted, Taken}
 use Rattle.fs_system.specs.Running.{IsRunning}
-use Rattle.fs_system.specs.Seen.{System, base_left, disk_in, IsOn}
+use Rattle.fs_system.specs.Seen.{System, tables_on, base_left, disk_in, IsOn}
 use Rattle.fs_images.specs.Standing.{EachStandsForSome}
 use Rattle.fs_system.specs.Replies.{spawned, finished}
 use Rattle.fs_system.proofs.Acting.{spawns, spawn_full, spawn_unmade, tells_time, flush_machine, fsync_firm, fsync_closed, fsync_absent, sync_firm}
@@ -58,17 +59,17 @@ module _ {D : Type 0} (state : D → DiskState) where
   disk_left (Err broken) = refl
 
   -- what is so of what an event leaves is so of what stands in its place
-  module _ (geometry : Geometry) (processes : ProcessTable) (time : ℕ) {put left : Base D} (is : put ≡ left) where
-    pub system_put : IsSystem state (record { base = left; geometry = geometry; processes = processes; time = time }) → IsSystem state (record { base = put; geometry = geometry; processes = processes; time = time })
-    system_put was = subst (λ (b : Base D). IsSystem state (record { base = b; geometry = geometry; processes = processes; time = time })) (sym is) was
+  module _ (geometry : Geometry) (tables : Tables) (time : ℕ) {put left : Base D} (is : put ≡ left) where
+    pub system_put : IsSystem state (record { base = left; geometry = geometry; processes = tables.processes; openings = tables.openings; time = time }) → IsSystem state (record { base = put; geometry = geometry; processes = tables.processes; openings = tables.openings; time = time })
+    system_put was = subst (λ (b : Base D). IsSystem state (record { base = b; geometry = geometry; processes = tables.processes; openings = tables.openings; time = time })) (sym is) was
 
-    pub happens_put : (old : System D) (e : Event) (reply : Reply) → Happens state old (record { base = left; geometry = geometry; processes = processes; time = time }) e reply
-        → Happens state old (record { base = put; geometry = geometry; processes = processes; time = time }) e reply
-    happens_put old e reply was = subst (λ (b : Base D). Happens state old (record { base = b; geometry = geometry; processes = processes; time = time }) e reply) (sym is) was
+    pub happens_put : (old : System D) (e : Event) (reply : Reply) → Happens state old (record { base = left; geometry = geometry; processes = tables.processes; openings = tables.openings; time = time }) e reply
+        → Happens state old (record { base = put; geometry = geometry; processes = tables.processes; openings = tables.openings; time = time }) e reply
+    happens_put old e reply was = subst (λ (b : Base D). Happens state old (record { base = b; geometry = geometry; processes = tables.processes; openings = tables.openings; time = time }) e reply) (sym is) was
 
-    pub flushes_put : (old : System D) (e : Event) (reply : Reply) → FlushesFor state old (record { base = left; geometry = geometry; processes = processes; time = time }) e reply
-        → FlushesFor state old (record { base = put; geometry = geometry; processes = processes; time = time }) e reply
-    flushes_put old e reply was = subst (λ (b : Base D). FlushesFor state old (record { base = b; geometry = geometry; processes = processes; time = time }) e reply) (sym is) was
+    pub flushes_put : (old : System D) (e : Event) (reply : Reply) → FlushesFor state old (record { base = left; geometry = geometry; processes = tables.processes; openings = tables.openings; time = time }) e reply
+        → FlushesFor state old (record { base = put; geometry = geometry; processes = tables.processes; openings = tables.openings; time = time }) e reply
+    flushes_put old e reply was = subst (λ (b : Base D). FlushesFor state old (record { base = b; geometry = geometry; processes = tables.processes; openings = tables.openings; time = time }) e reply) (sym is) was
 
   module _ (only_now : (disk : D) (image : Image) → (state disk).left_since (state disk).moment image → IsImage (state disk) image) where
     -- ---- a halted one
@@ -76,8 +77,8 @@ module _ {D : Type 0} (state : D → DiskState) where
     pub halted_happens : (fs : System D) (e : Event) → is_halted fs.base ≡ true → IsTrue (is_of_machine e) → Happens state fs fs e (Refused (Failed EIO))
     halted_happens fs e halted machine s here = go fs.base halted here
       where
-        go : (b : Base D) → is_halted b ≡ true → IsOn state fs.geometry fs.time fs.processes b s
-            → (t : State) × IsOn state fs.geometry fs.time fs.processes b t × Does (disk_in state b) (disk_in state b) s e (Refused (Failed EIO)) t
+        go : (b : Base D) → is_halted b ≡ true → IsOn state fs.geometry fs.time (tables_on fs) b s
+            → (t : State) × IsOn state fs.geometry fs.time (tables_on fs) b t × Does (disk_in state b) (disk_in state b) s e (Refused (Failed EIO)) t
         go Taken is on = absurd cc
         go (Running store) is on = absurd cc
         go (Halted broken) is on = (s, on, does_halted (state broken) (only_now broken) s e machine on)
@@ -89,21 +90,21 @@ module _ {D : Type 0} (state : D → DiskState) where
     pub halted_flushes : (fs : System D) (e : Event) → is_halted fs.base ≡ true → FlushesFor state fs fs e (Refused (Failed EIO))
     halted_flushes fs e halted asks s r firm = halted_happens fs e halted (flush_machine e asks) s r
 
-    -- ---- events that change the processes alone, or the time
+    -- ---- events that change the tables alone, or the time
 
-    module _ (fs : System D) (up : is_halted fs.base ≡ false) (processes : ProcessTable) (time : ℕ) (e : Event) (reply : Reply) where
+    module _ (fs : System D) (up : is_halted fs.base ≡ false) (tables : Tables) (time : ℕ) (e : Event) (reply : Reply) where
       -- a step of the running state is one of the file system
-      pub moves : ((s : State) → IsState s → IsFalse s.halted → s.processes ≡ fs.processes → s.now ≡ fs.time → (size : ℕ) (map : SectorMap) → IsRunning size fs.geometry map fs.processes s
-          → (t : State) × (IsRunning size fs.geometry map processes t × (t.now ≡ time)) × ((disk : D) → Does (state disk) (state disk) s e reply t))
-          → Happens state fs (record fs { processes = processes; time = time }) e reply
+      pub moves : ((s : State) → IsState s → IsFalse s.halted → tables_in s ≡ tables_on fs → s.now ≡ fs.time → (size : ℕ) (map : SectorMap) → IsRunning size fs.geometry map (tables_on fs) s
+          → (t : State) × (IsRunning size fs.geometry map tables t × (t.now ≡ time)) × ((disk : D) → Does (state disk) (state disk) s e reply t))
+          → Happens state fs (record fs { processes = tables.processes; openings = tables.openings; time = time }) e reply
       moves does s here = go fs.base up here
         where
-          go : (b : Base D) → is_halted b ≡ false → IsOn state fs.geometry fs.time fs.processes b s
-              → (t : State) × IsOn state fs.geometry time processes b t × Does (disk_in state b) (disk_in state b) s e reply t
+          go : (b : Base D) → is_halted b ≡ false → IsOn state fs.geometry fs.time (tables_on fs) b s
+              → (t : State) × IsOn state fs.geometry time tables b t × Does (disk_in state b) (disk_in state b) s e reply t
           go Taken is on = absurd on
           go (Halted broken) is on = absurd cc
           go (Running store) is on =
-              let next = does s on.0.state_of.is_state on.0.state_of.up on.0.state_of.same_processes on.1 (state store.disk).size (present state store) on.0 in
+              let next = does s on.0.state_of.is_state on.0.state_of.up on.0.state_of.same_tables on.1 (state store.disk).size (present state store) on.0 in
               (next.0, next.1, next.2 store.disk)
 
     -- ---- spawn
@@ -112,18 +113,19 @@ module _ {D : Type 0} (state : D → DiskState) where
       pub spawn_made : (pid : ℕ) → IsNewPid fs.processes pid → processes ≡ with_entry nat_cmp fs.processes pid (new_process cred)
           → Happens state fs (record fs { processes = processes }) (Spawn cred) (spawned (Ok pid))
       spawn_made pid new is =
-          moves fs up processes fs.time (Spawn cred) (spawned (Ok pid))
+          moves fs up (both processes fs.openings) fs.time (Spawn cred) (spawned (Ok pid))
           (λ s is_state runs same told size map on.
-          let unused : IsNewPid s.processes pid = subst (λ d. IsNewPid d pid) (sym same) new in
-          let less : length s.processes < 64 = (let count : length s.processes ≡ length fs.processes = ap length same in omega (arith, count, few)) in
+          let unused : IsNewPid s.processes pid = subst (λ (d : Tables). IsNewPid d.processes pid) (sym same) new in
+          let less : length s.processes < 64 = (let count : length s.processes ≡ length fs.processes = ap (λ (d : Tables). length d.processes) same in omega (arith, count, few)) in
           let step = spawns s runs cred is_state pid unused less in
           let t : State = record s { processes = with_entry nat_cmp s.processes pid (new_process cred) } in
           let t_is : IsState t = steps_keep s t (Spawn cred) (spawned (Ok pid)) is_state valid step in (
             t,
             (
-              running_same size size fs.geometry map map (with_entry nat_cmp s.processes pid (new_process cred)) processes t refl (λ n part. refl)
-                  (is ∙ sym (ap (λ d. with_entry nat_cmp d pid (new_process cred)) same))
-                  (running_with size fs.geometry map fs.processes (with_entry nat_cmp s.processes pid (new_process cred)) s t_is on),
+              running_same size size fs.geometry map map (both (with_entry nat_cmp s.processes pid (new_process cred)) s.openings) (both processes fs.openings) t refl (λ n part. refl)
+                  (ap (λ (d : ProcessTable). both d fs.openings) is
+                  ∙ sym (ap (λ (d : Tables). both (with_entry nat_cmp d.processes pid (new_process cred)) d.openings) same))
+                  (running_with size fs.geometry map (tables_on fs) (both (with_entry nat_cmp s.processes pid (new_process cred)) s.openings) s t_is on),
               told,
             ),
             λ disk. does_nothing (state disk) (only_now disk) s t (Spawn cred) (spawned (Ok pid)) runs runs step refl refl,
@@ -131,22 +133,22 @@ module _ {D : Type 0} (state : D → DiskState) where
 
       pub spawn_lacks : processes ≡ fs.processes → Happens state fs (record fs { processes = processes }) (Spawn cred) (spawned (Err ENOMEM))
       spawn_lacks same_processes =
-          moves fs up processes fs.time (Spawn cred) (spawned (Err ENOMEM))
+          moves fs up (both processes fs.openings) fs.time (Spawn cred) (spawned (Err ENOMEM))
           (λ s is_state runs same told size map on.
-          let less : length s.processes < 64 = (let count : length s.processes ≡ length fs.processes = ap length same in omega (arith, count, few)) in (
+          let less : length s.processes < 64 = (let count : length s.processes ≡ length fs.processes = ap (λ (d : Tables). length d.processes) same in omega (arith, count, few)) in (
             s,
-            (running_same size size fs.geometry map map fs.processes processes s refl (λ n part. refl) same_processes on, told),
+            (running_same size size fs.geometry map map (tables_on fs) (both processes fs.openings) s refl (λ n part. refl) (ap (λ (d : ProcessTable). both d fs.openings) same_processes) on, told),
             λ disk. does_nothing (state disk) (only_now disk) s s (Spawn cred) (spawned (Err ENOMEM)) runs runs (spawn_unmade s runs cred less) refl refl,
           ))
 
     pub spawn_refused : (fs : System D) (up : is_halted fs.base ≡ false) (cred : Credential) (processes : ProcessTable) → 64 ≤ length fs.processes → processes ≡ fs.processes
         → Happens state fs (record fs { processes = processes }) (Spawn cred) (spawned (Err EAGAIN))
     spawn_refused fs up cred processes many same_processes =
-        moves fs up processes fs.time (Spawn cred) (spawned (Err EAGAIN))
+        moves fs up (both processes fs.openings) fs.time (Spawn cred) (spawned (Err EAGAIN))
         (λ s is_state runs same told size map on.
-        let more : 64 ≤ length s.processes = (let count : length s.processes ≡ length fs.processes = ap length same in omega (arith, count, many)) in (
+        let more : 64 ≤ length s.processes = (let count : length s.processes ≡ length fs.processes = ap (λ (d : Tables). length d.processes) same in omega (arith, count, many)) in (
           s,
-          (running_same size size fs.geometry map map fs.processes processes s refl (λ n part. refl) same_processes on, told),
+          (running_same size size fs.geometry map map (tables_on fs) (both processes fs.openings) s refl (λ n part. refl) (ap (λ (d : ProcessTable). both d fs.openings) same_processes) on, told),
           λ disk. does_nothing (state disk) (only_now disk) s s (Spawn cred) (spawned (Err EAGAIN)) runs runs (spawn_full s runs cred more) refl refl,
         ))
 
@@ -176,13 +178,13 @@ module _ {D : Type 0} (state : D → DiskState) where
 
     pub time_told : (fs : System D) → is_halted fs.base ≡ false → (time : ℕ) → time < 2 ^ 64 → Happens state fs (record fs { time = time }) (Clock time) Done
     time_told fs up time small =
-        moves fs up fs.processes time (Clock time) Done
+        moves fs up (tables_on fs) time (Clock time) Done
         (λ s is_state runs same told size map on.
         let step = tells_time s runs time is_state in
         let t : State = record s { now = time } in
         let t_is : IsState t = steps_keep s t (Clock time) Done is_state small step in (
           t,
-          (running_at size fs.geometry map fs.processes time s t_is on, refl),
+          (running_at size fs.geometry map (tables_on fs) time s t_is on, refl),
           λ disk. does_nothing (state disk) (only_now disk) s t (Clock time) Done runs runs step refl refl,
         ))
 
@@ -191,12 +193,12 @@ module _ {D : Type 0} (state : D → DiskState) where
     pub fsync_refused : (fs : System D) → is_halted fs.base ≡ false → (pid fd : ℕ) (errno : Errno) → open_in fs.processes pid fd ≡ Err errno
         → Happens state fs fs (Fsync pid fd) (finished (Err errno))
     fsync_refused fs up pid fd errno closed =
-        moves fs up fs.processes fs.time (Fsync pid fd) (Refused (Failed errno))
+        moves fs up (tables_on fs) fs.time (Fsync pid fd) (Refused (Failed errno))
         (λ s is_state runs same told size map on. (
           s,
           (on, told),
           λ disk. does_nothing (state disk) (only_now disk) s s (Fsync pid fd) (Refused (Failed errno)) runs runs
-              (go s runs (get nat_cmp s.processes pid) refl (ap (λ d. open_in d pid fd) same ∙ closed)) refl (no_fault s (get nat_cmp s.processes pid) (ap (λ d. open_in d pid fd) same ∙ closed)),
+              (go s runs (get nat_cmp s.processes pid) refl (ap (λ (d : Tables). open_in d.processes pid fd) same ∙ closed)) refl (no_fault s (get nat_cmp s.processes pid) (ap (λ (d : Tables). open_in d.processes pid fd) same ∙ closed)),
         ))
       where
         bad : (s : State) (p : Process) → get nat_cmp s.processes pid ≡ Some p → IsFalse s.halted → (o : Option Descriptor) → descriptor p fd ≡ o
@@ -231,32 +233,32 @@ module _ {D : Type 0} (state : D → DiskState) where
 
     -- ---- sync and fsync
 
-    module _ (geometry : Geometry) (processes : ProcessTable) (time : ℕ) (e : Event) where
+    module _ (geometry : Geometry) (tables : Tables) (time : ℕ) (e : Event) where
       pub flush_done : (before after : StoreView D) → SameMap (present state after) (present state before)
           → LeavesOldOr (present state before) (state before.disk) (state after.disk) → EachReadsAs (present state before) (state after.disk)
           → (state before.disk).failures ≤ (state after.disk).failures → (state after.disk).failed_writes ≡ (state before.disk).failed_writes
-          → FlushesFor state (record { base = Running before; geometry = geometry; processes = processes; time = time }) (record { base = Running after; geometry = geometry; processes = processes; time = time }) e Done
+          → FlushesFor state (record { base = Running before; geometry = geometry; processes = tables.processes; openings = tables.openings; time = time }) (record { base = Running after; geometry = geometry; processes = tables.processes; openings = tables.openings; time = time }) e Done
       flush_done before after same run lasting later quiet asks s on firm = (
         s,
-        (running_same (state before.disk).size (state after.disk).size geometry (present state before) (present state after) processes processes s run.size same refl on.0, on.1),
-        does_flush (state before.disk) (state after.disk) geometry (present state before) processes s on.0 run later e asks firm lasting quiet,
+        (running_same (state before.disk).size (state after.disk).size geometry (present state before) (present state after) tables tables s run.size same refl on.0, on.1),
+        does_flush (state before.disk) (state after.disk) geometry (present state before) tables s on.0 run later e asks firm lasting quiet,
       )
 
       pub flush_broke : (before : StoreView D) (broken : D) → LeavesOldOr (present state before) (state before.disk) (state broken)
           → (state before.disk).failures ≤ (state broken).failures → HasFailed (state before.disk) (state broken) → HasFailedToWrite (state before.disk) (state broken)
-          → FlushesFor state (record { base = Running before; geometry = geometry; processes = processes; time = time }) (record { base = Halted broken; geometry = geometry; processes = processes; time = time }) e
+          → FlushesFor state (record { base = Running before; geometry = geometry; processes = tables.processes; openings = tables.openings; time = time }) (record { base = Halted broken; geometry = geometry; processes = tables.processes; openings = tables.openings; time = time }) e
           (Refused (Failed EIO))
       flush_broke before broken run later failed unwritten asks s on firm = (
         record s { halted = true },
         refl,
-        does_flush_halt (state before.disk) (state broken) geometry (present state before) processes s on.0 run later e asks firm failed unwritten,
+        does_flush_halt (state before.disk) (state broken) geometry (present state before) tables s on.0 run later e asks firm failed unwritten,
       )
 
     -- ---- as methods do it: of the parts of a file system, which is seen so
 
-    module _ (base : Base D) (geometry : Geometry) (procs : ProcessTable) (time : ℕ) (fs : System D) (view_is : record { base = base; geometry = geometry; processes = procs; time = time } ≡ fs) where
+    module _ (base : Base D) (geometry : Geometry) (procs : Tables) (time : ℕ) (fs : System D) (view_is : record { base = base; geometry = geometry; processes = procs.processes; openings = procs.openings; time = time } ≡ fs) where
       abbrev inside : System D
-      inside = record { base = base; geometry = geometry; processes = procs; time = time }
+      inside = record { base = base; geometry = geometry; processes = procs.processes; openings = procs.openings; time = time }
 
       module _ (up : is_halted fs.base ≡ false) where
         up_inside : is_halted base ≡ false
@@ -272,48 +274,48 @@ module _ {D : Type 0} (state : D → DiskState) where
             go (Halted broken) running s on = absurd cc
 
         -- fsync
-        pub fsync_unopened : (pid fd : ℕ) (errno : Errno) → open_in procs pid fd ≡ Err errno → Happens state fs fs (Fsync pid fd) (finished (Err errno))
+        pub fsync_unopened : (pid fd : ℕ) (errno : Errno) → open_in procs.processes pid fd ≡ Err errno → Happens state fs fs (Fsync pid fd) (finished (Err errno))
         fsync_unopened pid fd errno closed =
             subst (λ (x : System D). Happens state x x (Fsync pid fd) (finished (Err errno))) view_is (fsync_refused inside up_inside pid fd errno closed)
 
-        pub fsync_flushed : (pid fd : ℕ) (d : Descriptor) → open_in procs pid fd ≡ Ok d → (new : System D) (reply : Reply)
+        pub fsync_flushed : (pid fd : ℕ) (d : Descriptor) → open_in procs.processes pid fd ≡ Ok d → (new : System D) (reply : Reply)
             → FlushesFor state fs new (Fsync pid fd) reply → Happens state fs new (Fsync pid fd) reply
         fsync_flushed pid fd d opened new reply flushes =
             λ s on. flushes refl s on
-            (open_firm s fs.processes pid fd d (go fs.base up s on) (ap (λ (x : System D). open_in x.processes pid fd) (sym view_is) ∙ opened))
+            (open_firm s fs.processes pid fd d (ap (λ (d : Tables). d.processes) (go fs.base up s on)) (ap (λ (x : System D). open_in x.processes pid fd) (sym view_is) ∙ opened))
           where
-            go : (b : Base D) → is_halted b ≡ false → (s : State) → IsOn state fs.geometry fs.time fs.processes b s → s.processes ≡ fs.processes
+            go : (b : Base D) → is_halted b ≡ false → (s : State) → IsOn state fs.geometry fs.time (tables_on fs) b s → tables_in s ≡ tables_on fs
             go Taken running s on = absurd on
-            go (Running store) running s on = on.0.state_of.same_processes
+            go (Running store) running s on = on.0.state_of.same_tables
             go (Halted broken) running s on = absurd cc
 
         -- the time
-        pub time_returns : (now : ℕ) → now < 2 ^ 64 → Happens state fs (record { base = base; geometry = geometry; processes = procs; time = now }) (Clock now) Done
+        pub time_returns : (now : ℕ) → now < 2 ^ 64 → Happens state fs (record { base = base; geometry = geometry; processes = procs.processes; openings = procs.openings; time = now }) (Clock now) Done
         time_returns now small =
-            subst (λ (x : System D). Happens state x (record { base = base; geometry = geometry; processes = procs; time = now }) (Clock now) Done) view_is
+            subst (λ (x : System D). Happens state x (record { base = base; geometry = geometry; processes = procs.processes; openings = procs.openings; time = now }) (Clock now) Done) view_is
             (time_told inside up_inside now small)
 
-        pub time_system : (now : ℕ) → now < 2 ^ 64 → IsSystem state (record { base = base; geometry = geometry; processes = procs; time = time })
-            → IsSystem state (record { base = base; geometry = geometry; processes = procs; time = now })
+        pub time_system : (now : ℕ) → now < 2 ^ 64 → IsSystem state (record { base = base; geometry = geometry; processes = procs.processes; openings = procs.openings; time = time })
+            → IsSystem state (record { base = base; geometry = geometry; processes = procs.processes; openings = procs.openings; time = now })
         time_system now small was =
-            system_then inside (record { base = base; geometry = geometry; processes = procs; time = now }) (Clock now) Done (time_told inside up_inside now small)
+            system_then inside (record { base = base; geometry = geometry; processes = procs.processes; openings = procs.openings; time = now }) (Clock now) Done (time_told inside up_inside now small)
             was was.mountable
 
         -- spawn
         module _ (cred : Credential) (valid : IsCredential cred) (processes : ProcessTable) (result : Result ℕ Errno)
-            (number : IfOk result (λ pid. IsNewPid procs pid))
-            (added : IfOk result (λ pid. processes ≡ with_entry nat_cmp procs pid (new_process cred)))
-            (full : (result ≡ Err EAGAIN) ↔ (64 ≤ length procs))
+            (number : IfOk result (λ pid. IsNewPid procs.processes pid))
+            (added : IfOk result (λ pid. processes ≡ with_entry nat_cmp procs.processes pid (new_process cred)))
+            (full : (result ≡ Err EAGAIN) ↔ (64 ≤ length procs.processes))
             (refused : IfErr result (λ errno. (errno ≡ EAGAIN) ⊎ (errno ≡ ENOMEM)))
-            (same : OnErr result (processes ≡ procs)) where
-          pub spawn_returns : Happens state fs (record { base = base; geometry = geometry; processes = processes; time = time }) (Spawn cred) (spawned result)
+            (same : OnErr result (processes ≡ procs.processes)) where
+          pub spawn_returns : Happens state fs (record { base = base; geometry = geometry; processes = processes; openings = procs.openings; time = time }) (Spawn cred) (spawned result)
           spawn_returns =
-              subst (λ (x : System D). Happens state x (record { base = base; geometry = geometry; processes = processes; time = time }) (Spawn cred) (spawned result)) view_is
+              subst (λ (x : System D). Happens state x (record { base = base; geometry = geometry; processes = processes; openings = procs.openings; time = time }) (Spawn cred) (spawned result)) view_is
               (spawn_happens inside up_inside cred valid processes result number added full refused same)
 
-          pub spawn_system : IsSystem state (record { base = base; geometry = geometry; processes = procs; time = time }) → IsSystem state (record { base = base; geometry = geometry; processes = processes; time = time })
+          pub spawn_system : IsSystem state (record { base = base; geometry = geometry; processes = procs.processes; openings = procs.openings; time = time }) → IsSystem state (record { base = base; geometry = geometry; processes = processes; openings = procs.openings; time = time })
           spawn_system was =
-              system_then inside (record { base = base; geometry = geometry; processes = processes; time = time }) (Spawn cred) (spawned result)
+              system_then inside (record { base = base; geometry = geometry; processes = processes; openings = procs.openings; time = time }) (Spawn cred) (spawned result)
               (spawn_happens inside up_inside cred valid processes result number added full refused same) was was.mountable
 
       -- where a commit has failed
@@ -321,41 +323,41 @@ module _ {D : Type 0} (state : D → DiskState) where
       last_halted broken is disk here =
           subst (λ (d : D). HappensLast state fs d Sync (Refused (Failed EIO))) (sym here)
           (subst (λ (x : System D). HappensLast state x broken Sync (Refused (Failed EIO)))
-          (ap (λ (b : Base D). record { base = b; geometry = geometry; processes = procs; time = time }) (sym is) ∙ view_is)
+          (ap (λ (b : Base D). record { base = b; geometry = geometry; processes = procs.processes; openings = procs.openings; time = time }) (sym is) ∙ view_is)
           (λ s r. (s, does_halted (state broken) (only_now broken) s Sync refl r)))
 
       -- with a store
       module _ (before : StoreView D) (is : base ≡ Running before) where
-        seen_so : record { base = Running before; geometry = geometry; processes = procs; time = time } ≡ fs
-        seen_so = ap (λ (b : Base D). record { base = b; geometry = geometry; processes = procs; time = time }) (sym is) ∙ view_is
+        seen_so : record { base = Running before; geometry = geometry; processes = procs.processes; openings = procs.openings; time = time } ≡ fs
+        seen_so = ap (λ (b : Base D). record { base = b; geometry = geometry; processes = procs.processes; openings = procs.openings; time = time }) (sym is) ∙ view_is
 
         -- the file system goes on in some state
-        pub store_runs : IsSystem state (record { base = base; geometry = geometry; processes = procs; time = time })
+        pub store_runs : IsSystem state (record { base = base; geometry = geometry; processes = procs.processes; openings = procs.openings; time = time })
             → (s : State) × IsRunning (state before.disk).size geometry (present state before) procs s
         store_runs was =
-            let here = (subst (λ (b : Base D). IsSystem state (record { base = b; geometry = geometry; processes = procs; time = time })) is was).in_some in
+            let here = (subst (λ (b : Base D). IsSystem state (record { base = b; geometry = geometry; processes = procs.processes; openings = procs.openings; time = time })) is was).in_some in
             (here.0, here.1.0)
 
         -- an event that was performed
-        module _ (now : Result (StoreView D) D) (processes : ProcessTable) (e : Event) (reply : Reply)
+        module _ (now : Result (StoreView D) D) (tables : Tables) (e : Event) (reply : Reply)
             (does : (s : State) → IsRunning (state before.disk).size geometry (present state before) procs s → s.now ≡ time
-            → (t : State) × IsOn state geometry s.now processes (base_left now) t × Does (state before.disk) (state (disk_after now)) s e reply t) where
+            → (t : State) × IsOn state geometry s.now tables (base_left now) t × Does (state before.disk) (state (disk_after now)) s e reply t) where
           at_time : (s : State) → IsOn state geometry time procs (Running before) s
-              → (t : State) × IsOn state geometry time processes (base_left now) t × Does (state before.disk) (disk_in state (base_left now)) s e reply t
+              → (t : State) × IsOn state geometry time tables (base_left now) t × Does (state before.disk) (disk_in state (base_left now)) s e reply t
           at_time s on =
               let next = does s on.0 on.1 in (
                 next.0,
-                subst (λ (k : ℕ). IsOn state geometry k processes (base_left now) next.0) on.1 next.1,
+                subst (λ (k : ℕ). IsOn state geometry k tables (base_left now) next.0) on.1 next.1,
                 subst (λ (d : DiskState). Does (state before.disk) d s e reply next.0) (sym (disk_left now)) next.2,
               )
 
-          pub kept_returns : Happens state fs (record { base = base_left now; geometry = geometry; processes = processes; time = time }) e reply
-          kept_returns = subst (λ (x : System D). Happens state x (record { base = base_left now; geometry = geometry; processes = processes; time = time }) e reply) seen_so at_time
+          pub kept_returns : Happens state fs (record { base = base_left now; geometry = geometry; processes = tables.processes; openings = tables.openings; time = time }) e reply
+          kept_returns = subst (λ (x : System D). Happens state x (record { base = base_left now; geometry = geometry; processes = tables.processes; openings = tables.openings; time = time }) e reply) seen_so at_time
 
           pub kept_system : ((t : ℕ) (image : Image) → t ≤ (state (disk_after now)).moment → IsImage (state (disk_after now)) image → (state (disk_after now)).left_since t image)
-              → IsSystem state (record { base = base; geometry = geometry; processes = procs; time = time }) → IsSystem state (record { base = base_left now; geometry = geometry; processes = processes; time = time })
+              → IsSystem state (record { base = base; geometry = geometry; processes = procs.processes; openings = procs.openings; time = time }) → IsSystem state (record { base = base_left now; geometry = geometry; processes = tables.processes; openings = tables.openings; time = time })
           kept_system counts_now was =
-              let here = subst (λ (b : Base D). IsSystem state (record { base = b; geometry = geometry; processes = procs; time = time })) is was in
+              let here = subst (λ (b : Base D). IsSystem state (record { base = b; geometry = geometry; processes = procs.processes; openings = procs.openings; time = time })) is was in
               let next = at_time here.in_some.0 here.in_some.1 in
               let done = (does here.in_some.0 here.in_some.1.0 here.in_some.1.1).2 in
               record {
@@ -367,9 +369,9 @@ module _ {D : Type 0} (state : D → DiskState) where
         module _ (after : StoreView D) (same : SameMap (present state after) (present state before))
             (run : LeavesOldOr (present state before) (state before.disk) (state after.disk)) (lasting : EachReadsAs (present state before) (state after.disk))
             (later : (state before.disk).failures ≤ (state after.disk).failures) (quiet : (state after.disk).failed_writes ≡ (state before.disk).failed_writes) where
-          pub flush_returns : (e : Event) → FlushesFor state fs (record { base = Running after; geometry = geometry; processes = procs; time = time }) e Done
+          pub flush_returns : (e : Event) → FlushesFor state fs (record { base = Running after; geometry = geometry; processes = procs.processes; openings = procs.openings; time = time }) e Done
           flush_returns e =
-              subst (λ (x : System D). FlushesFor state x (record { base = Running after; geometry = geometry; processes = procs; time = time }) e Done) seen_so
+              subst (λ (x : System D). FlushesFor state x (record { base = Running after; geometry = geometry; processes = procs.processes; openings = procs.openings; time = time }) e Done) seen_so
               (flush_done geometry procs time e before after same run lasting later quiet)
 
         -- the disk is handed back
@@ -381,9 +383,9 @@ module _ {D : Type 0} (state : D → DiskState) where
 
         module _ (broken : D) (run : LeavesOldOr (present state before) (state before.disk) (state broken)) (later : (state before.disk).failures ≤ (state broken).failures)
             (failed : HasFailed (state before.disk) (state broken)) (unwritten : HasFailedToWrite (state before.disk) (state broken)) where
-          pub break_returns : (e : Event) → FlushesFor state fs (record { base = Halted broken; geometry = geometry; processes = procs; time = time }) e (Refused (Failed EIO))
+          pub break_returns : (e : Event) → FlushesFor state fs (record { base = Halted broken; geometry = geometry; processes = procs.processes; openings = procs.openings; time = time }) e (Refused (Failed EIO))
           break_returns e =
-              subst (λ (x : System D). FlushesFor state x (record { base = Halted broken; geometry = geometry; processes = procs; time = time }) e (Refused (Failed EIO))) seen_so
+              subst (λ (x : System D). FlushesFor state x (record { base = Halted broken; geometry = geometry; processes = procs.processes; openings = procs.openings; time = time }) e (Refused (Failed EIO))) seen_so
               (flush_broke geometry procs time e before broken run later failed unwritten)
 
           pub last_broken : (disk : D) → disk ≡ broken → HappensLast state fs disk Sync (Refused (Failed EIO))
@@ -394,17 +396,17 @@ module _ {D : Type 0} (state : D → DiskState) where
 
         -- what is left may be mounted
         pub flush_leaves : (disk : D) → ((t : ℕ) (image : Image) → t ≤ (state disk).moment → IsImage (state disk) image → (state disk).left_since t image)
-            → LeavesOldOr (present state before) (state before.disk) (state disk) → IsSystem state (record { base = base; geometry = geometry; processes = procs; time = time })
+            → LeavesOldOr (present state before) (state before.disk) (state disk) → IsSystem state (record { base = base; geometry = geometry; processes = procs.processes; openings = procs.openings; time = time })
             → EachStandsForSome (state disk)
         flush_leaves disk counts_now run was =
-            let here = subst (λ (b : Base D). IsSystem state (record { base = b; geometry = geometry; processes = procs; time = time })) is was in
+            let here = subst (λ (b : Base D). IsSystem state (record { base = b; geometry = geometry; processes = procs.processes; openings = procs.openings; time = time })) is was in
             flush_mountable (state before.disk) (state disk) geometry (present state before) procs here.in_some.0 here.in_some.1.0 run counts_now here.mountable
 
         pub flush_system : (after : StoreView D) → ((t : ℕ) (image : Image) → t ≤ (state after.disk).moment → IsImage (state after.disk) image → (state after.disk).left_since t image)
             → SameMap (present state after) (present state before) → LeavesOldOr (present state before) (state before.disk) (state after.disk)
-            → IsSystem state (record { base = base; geometry = geometry; processes = procs; time = time }) → IsSystem state (record { base = Running after; geometry = geometry; processes = procs; time = time })
+            → IsSystem state (record { base = base; geometry = geometry; processes = procs.processes; openings = procs.openings; time = time }) → IsSystem state (record { base = Running after; geometry = geometry; processes = procs.processes; openings = procs.openings; time = time })
         flush_system after counts_now same run was =
-            let here = subst (λ (b : Base D). IsSystem state (record { base = b; geometry = geometry; processes = procs; time = time })) is was in
+            let here = subst (λ (b : Base D). IsSystem state (record { base = b; geometry = geometry; processes = procs.processes; openings = procs.openings; time = time })) is was in
             record {
               in_some = (
                 here.in_some.0,
@@ -419,33 +421,33 @@ module _ {D : Type 0} (state : D → DiskState) where
 
         pub break_system : (broken : D) → ((t : ℕ) (image : Image) → t ≤ (state broken).moment → IsImage (state broken) image → (state broken).left_since t image)
             → LeavesOldOr (present state before) (state before.disk) (state broken)
-            → IsSystem state (record { base = base; geometry = geometry; processes = procs; time = time }) → IsSystem state (record { base = Halted broken; geometry = geometry; processes = procs; time = time })
+            → IsSystem state (record { base = base; geometry = geometry; processes = procs.processes; openings = procs.openings; time = time }) → IsSystem state (record { base = Halted broken; geometry = geometry; processes = procs.processes; openings = procs.openings; time = time })
         break_system broken counts_now run was =
-            let here = subst (λ (b : Base D). IsSystem state (record { base = b; geometry = geometry; processes = procs; time = time })) is was in
+            let here = subst (λ (b : Base D). IsSystem state (record { base = b; geometry = geometry; processes = procs.processes; openings = procs.openings; time = time })) is was in
             record { in_some = (record here.in_some.0 { halted = true }, refl); mountable = flush_leaves broken counts_now run was }
 
 -- ---- an event that happens to the store, which is taken for it
 
-module _ {D : Type 0} {state : D → DiskState} {base : Base D} {geometry : Geometry} {procs : ProcessTable} {time : ℕ} {fs : System D}
+module _ {D : Type 0} {state : D → DiskState} {base : Base D} {geometry : Geometry} {procs : ProcessTable} {openings : Openings} {time : ℕ} {fs : System D}
     (only_now : (disk : D) (image : Image) → (state disk).left_since (state disk).moment image → IsImage (state disk) image)
-    (was : IsSystem state (record { base = base; geometry = geometry; processes = procs; time = time })) (view_is : record { base = base; geometry = geometry; processes = procs; time = time } ≡ fs) where
+    (was : IsSystem state (record { base = base; geometry = geometry; processes = procs; openings = openings; time = time })) (view_is : record { base = base; geometry = geometry; processes = procs; openings = openings; time = time } ≡ fs) where
   pub may_take : is_halted fs.base ≡ false → (store : StoreView D) × base ≡ Running store
-  may_take up = store_there state only_now base geometry procs time fs view_is up was
+  may_take up = store_there state only_now base geometry (both procs openings) time fs view_is up was
 
   module _ {before : StoreView D} (taken : base ≡ Running before) where
-    pub taken_runs : (s : State) × IsRunning (state before.disk).size geometry (present state before) procs s
-    taken_runs = store_runs state only_now base geometry procs time fs view_is before taken was
+    pub taken_runs : (s : State) × IsRunning (state before.disk).size geometry (present state before) (both procs openings) s
+    taken_runs = store_runs state only_now base geometry (both procs openings) time fs view_is before taken was
 
-    module _ {put : Base D} (e : Event) (reply : Reply) (now : Result (StoreView D) D) (processes : ProcessTable) (put_is : put ≡ base_left now)
-        (does : (s : State) → IsRunning (state before.disk).size geometry (present state before) procs s → s.now ≡ time
-        → (t : State) × IsOn state geometry s.now processes (base_left now) t × Does (state before.disk) (state (disk_after now)) s e reply t) where
-      pub event_happens : Happens state fs (record { base = put; geometry = geometry; processes = processes; time = time }) e reply
+    module _ {put : Base D} (e : Event) (reply : Reply) (now : Result (StoreView D) D) (tables : Tables) (put_is : put ≡ base_left now)
+        (does : (s : State) → IsRunning (state before.disk).size geometry (present state before) (both procs openings) s → s.now ≡ time
+        → (t : State) × IsOn state geometry s.now tables (base_left now) t × Does (state before.disk) (state (disk_after now)) s e reply t) where
+      pub event_happens : Happens state fs (record { base = put; geometry = geometry; processes = tables.processes; openings = tables.openings; time = time }) e reply
       event_happens =
-          happens_put state geometry processes time put_is fs e reply
-          (kept_returns state only_now base geometry procs time fs view_is before taken now processes e reply does)
+          happens_put state geometry tables time put_is fs e reply
+          (kept_returns state only_now base geometry (both procs openings) time fs view_is before taken now tables e reply does)
 
       pub event_system : ((t : ℕ) (image : Image) → t ≤ (state (disk_after now)).moment → IsImage (state (disk_after now)) image → (state (disk_after now)).left_since t image)
-          → IsSystem state (record { base = put; geometry = geometry; processes = processes; time = time })
+          → IsSystem state (record { base = put; geometry = geometry; processes = tables.processes; openings = tables.openings; time = time })
       event_system counts_now =
-          system_put state geometry processes time put_is
-          (kept_system state only_now base geometry procs time fs view_is before taken now processes e reply does counts_now was)
+          system_put state geometry tables time put_is
+          (kept_system state only_now base geometry (both procs openings) time fs view_is before taken now tables e reply does counts_now was)

@@ -1,4 +1,5 @@
 -- What a mount comes to.
+use Rattle.call_parts.specs.BothTables.{Tables, both}
 use Rattle.std.proofs.Common.{◌≡◌, ◌≤◌, ℕ, [], length, refl, sym, ap, subst, ◌∙◌, arith, false}
 use Rattle.sector_disk.specs.Disk.{DiskState, Image, sector, IsImage, IsSame, Elapses, LeavesOnly, HasFailed}
 use Rattle.sector_disk.proofs.Moments.{failed_later, holds_now, joined, one_call, unchanged, weaker}
@@ -11,7 +12,6 @@ use Rattle.fs_model.specs.declared.event.RestartFault.{RestartFault}
 use Rattle.fs_model.specs.declared.event.RestartFault.TheVariants.{DiskFault}
 use Rattle.fs_model.specs.Trees.{Tree, Room}
 use Rattle.fs_model.specs.TreeChanges.{pruned}
-use Rattle.fs_model.specs.Processes.{ProcessTable}
 use Rattle.fs_model.specs.States.{State, IsState, MayBeFree}
 use Rattle.fs_model.specs.Stands.{room_of}
 use Rattle.fs_model.proofs.OneTree.{one_tree}
@@ -99,7 +99,7 @@ module _ (old : DiskState) (size : length old.seen ≡ old.size) (room : Room) (
   module _ (new : DiskState) (map : SectorMap) (geometry : Geometry) (found : stands.geometry ≡ geometry) (stored : IsStored new.size geometry map (pruned t))
       (images : EachStandsFor (room_of geometry) new (pruned t)) (later : old.failures ≤ new.failures) (quiet : new.failed_writes ≡ old.failed_writes) where
     abbrev pub state_found : State
-    state_found = record { room = room; tree = pruned t; processes = []; free = free_sectors geometry map; now = 0; halted = false }
+    state_found = record { room = room; tree = pruned t; processes = []; openings = []; free = free_sectors geometry map; now = 0; halted = false }
 
     room_is : room ≡ room_of geometry
     room_is = stands.room_is ∙ ap room_of found
@@ -111,14 +111,14 @@ module _ (old : DiskState) (size : length old.seen ≡ old.size) (room : Room) (
 
     found_state : IsState state_found
     found_state =
-        left_is_state (record { room = room; tree = t; processes = []; free = free; now = 0; halted = false }) t [] (free_sectors geometry map) (is_room old.seen room t free stands) (omega arith)
-        (tree_may_be_left room t [] stands.tree_is refl (omega arith) (λ pid p e. absurd cc)) may_be_free
+        left_is_state (record { room = room; tree = t; processes = []; openings = []; free = free; now = 0; halted = false }) t [] [] (free_sectors geometry map) (is_room old.seen room t free stands) (omega arith)
+        (tree_may_be_left room t [] [] stands.tree_is refl (omega arith) (λ pid p e. absurd cc) refl (λ handle d e. absurd cc)) may_be_free
 
     mounted_here : IsMounted new room t state_found
     mounted_here = record { is_mounted = refl; free = may_be_free; images = subst (λ (q : Room). EachStandsFor q new (pruned t)) (sym room_is) images }
 
-    pub ends_mounted : (processes : ProcessTable) → processes ≡ [] → (s : State) × (IsRunning new.size geometry map processes s × (s.now ≡ 0)) × Mounts old new s
-    ends_mounted processes none = (
+    pub ends_mounted : (tables : Tables) → tables ≡ both [] [] → (s : State) × (IsRunning new.size geometry map tables s × (s.now ≡ 0)) × Mounts old new s
+    ends_mounted tables none = (
       state_found,
       (
         record {
@@ -126,7 +126,7 @@ module _ (old : DiskState) (size : length old.seen ≡ old.size) (room : Room) (
           state_of = record {
             is_state = found_state;
             up = refl;
-            same_processes = sym none;
+            same_tables = sym none;
             same_room = room_is;
             holds = stored.holds.holds;
             free_is = refl;
@@ -172,13 +172,13 @@ module _ {D : Type 0} (state : D → DiskState) (disk read : D) (store : StoreVi
       (swept : (t : Tree) → HasTree geometry (present state store) (state store.disk) t → IsStored (state then.disk).size geometry (present state then) (pruned t))
       (stable : (t : Tree) → HasTree geometry (present state store) (state store.disk) t → EachStandsFor (room_of geometry) (state then.disk) (pruned t))
       (later : (state disk).failures ≤ (state then.disk).failures) (quiet : (state then.disk).failed_writes ≡ (state disk).failed_writes)
-      (processes : ProcessTable) (none : processes ≡ []) where
-    pub mounts_found : (s : State) × (IsRunning (state then.disk).size geometry (present state then) processes s × (s.now ≡ 0)) × Mounts (state disk) (state then.disk) s
+      (tables : Tables) (none : tables ≡ both [] []) where
+    pub mounts_found : (s : State) × (IsRunning (state then.disk).size geometry (present state then) tables s × (s.now ≡ 0)) × Mounts (state disk) (state then.disk) s
     mounts_found =
         ends_mounted (state disk) seen.size was.0 was.1 was.2 was.3 (state then.disk) (present state then) geometry at (swept was.1 opened_tree)
-        (stable was.1 opened_tree) later quiet processes none
+        (stable was.1 opened_tree) later quiet tables none
 
-    pub mounted_system : IsSystem state (record { base = Running then; geometry = geometry; processes = processes; time = 0 })
+    pub mounted_system : IsSystem state (record { base = Running then; geometry = geometry; processes = tables.processes; openings = tables.openings; time = 0 })
     mounted_system =
         let is = mounts_found in
         let each = stable was.1 opened_tree in

@@ -1,4 +1,5 @@
 -- Plays: events of what is served, one after another, and what all of them come to.
+use Rattle.call_parts.specs.BothTables.{Tables}
 use Rattle.std.proofs.Common.{◌≡◌, ◌≤◌, ◌<◌, inl, inr, ℕ, List, [], ◌∷◌, ◌++◌, length, get_or, take, Option, Result, Ok, Err, IsTrue, refl, sym, ap, subst, ◌∙◌, arith}
 use Rattle.std.specs.Prelude.{Contains, ◌+◌, ◌↔◌, Bool, false, IfOk, IfErr}
 use Rattle.std.proofs.lemmas.Bool.{cases_lt}
@@ -32,7 +33,7 @@ use Rattle.fs_system.specs.Mounts.{IsNotMounted, IsMounted, Mounts, FailsToMount
 use Rattle.fs_system.specs.Mounting.{IsSystem, fault_of}
 use Rattle.fs_system.specs.declared.base.Base.{Base}
 use Rattle.fs_system.specs.declared.base.Base.TheVariants.{Running, Halted, Taken}
-use Rattle.fs_system.specs.Seen.{System, disk_in, IsOn, IsIn}
+use Rattle.fs_system.specs.Seen.{System, disk_in, IsOn, IsIn, tables_on}
 use Rattle.fs_images.specs.Standing.{StandsForSome, EachStandsForSome, Covers, HasFinding}
 use Rattle.fs_system.proofs.Runs.{only_here, histories_are_runs}
 
@@ -86,7 +87,7 @@ module _ {D : Type 0} (state : D → DiskState) where
   pub the_disk : (fs : System D) (s : State) → IsIn state fs s → (disk : D) × HasDisk fs.base disk
   the_disk fs s here = go fs.base here
     where
-      go : (b : Base D) → IsOn state fs.geometry fs.time fs.processes b s → (disk : D) × HasDisk b disk
+      go : (b : Base D) → IsOn state fs.geometry fs.time (tables_on fs) b s → (disk : D) × HasDisk b disk
       go (Running store) on = (store.disk, refl)
       go (Halted broken) on = (broken, refl)
       go Taken on = absurd on
@@ -103,16 +104,16 @@ module _ {D : Type 0} (state : D → DiskState) where
   device_is (Err alone) (Off d) disk is has = sym is ∙ has
 
   -- as a file system gives its disk away
-  module _ (base : Base D) (geometry : Geometry) (procs : ProcessTable) (time : ℕ) where
+  module _ (base : Base D) (geometry : Geometry) (tables : Tables) (time : ℕ) where
     -- it has one
-    pub has_disk : IsSystem state (record { base = base; geometry = geometry; processes = procs; time = time }) → (disk : D) × HasDisk base disk
-    has_disk was = the_disk (record { base = base; geometry = geometry; processes = procs; time = time }) was.in_some.0 was.in_some.1
+    pub has_disk : IsSystem state (record { base = base; geometry = geometry; processes = tables.processes; openings = tables.openings; time = time }) → (disk : D) × HasDisk base disk
+    has_disk was = the_disk (record { base = base; geometry = geometry; processes = tables.processes; openings = tables.openings; time = time }) was.in_some.0 was.in_some.1
 
     module _ (disk : D) (has : HasDisk base disk) where
-      pub disk_given : (fs : System D) → record { base = base; geometry = geometry; processes = procs; time = time } ≡ fs → HasDisk fs.base disk
+      pub disk_given : (fs : System D) → record { base = base; geometry = geometry; processes = tables.processes; openings = tables.openings; time = time } ≡ fs → HasDisk fs.base disk
       disk_given fs view_is = subst (λ (x : System D). HasDisk x.base disk) view_is has
 
-      pub disk_mounts : IsSystem state (record { base = base; geometry = geometry; processes = procs; time = time }) → EachStandsForSome (state disk)
+      pub disk_mounts : IsSystem state (record { base = base; geometry = geometry; processes = tables.processes; openings = tables.openings; time = time }) → EachStandsForSome (state disk)
       disk_mounts was = seen_in EachStandsForSome base disk has was.mountable
 
   -- ---- events of the machine

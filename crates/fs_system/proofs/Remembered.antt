@@ -1,4 +1,5 @@
 -- What a store remembers of how much is free in it, and in each sector of the bitmaps.
+use Rattle.call_parts.specs.BothTables.{Tables}
 use Rattle.std.proofs.Common.{◌≡◌, ℕ, ◌≤◌, List, Option, Some, None, refl, sym, ap, subst, ◌∙◌, inl, inr}
 use Rattle.std.specs.Prelude.{not, count_by, Contains, IfSome}
 use Rattle.bit_alloc.specs.Bits.{clear_below}
@@ -18,7 +19,6 @@ use Rattle.fs_layout.proofs.SuperLaw.{super_codec}
 use Rattle.fs_layout.proofs.Codecs.{same_spelling}
 use Rattle.redo_journal.specs.Meaning.{SameMap}
 use Rattle.redo_journal.proofs.Meaning.{same_back}
-use Rattle.fs_model.specs.Processes.{ProcessTable}
 use Rattle.fs_model.specs.States.{State}
 use Rattle.fs_model.specs.Trees.{Room, free_inodes}
 use Rattle.fs_model.proofs.FreeInodes.{free_are_clear}
@@ -40,9 +40,9 @@ one_geometry size map p q x y =
     some_same p q _ _ x.has_geometry y.has_geometry (ap (λ v. geometry_in v.version v.header size v.inodes) super)
 
 -- what was counted is so of each state of this map
-pub counted_tells : (size : ℕ) (p : Geometry) (map : SectorMap) (processes : ProcessTable) (s : State) → IsRunning size p map processes s → (free : FreeSpace)
+pub counted_tells : (size : ℕ) (p : Geometry) (map : SectorMap) (tables : Tables) (s : State) → IsRunning size p map tables s → (free : FreeSpace)
     → free.sectors ≡ free_sectors p map → free.inodes ≡ count_by (λ n. not (bit map p.inode_bitmap n)) (range_with_len 0 p.inodes) → TellsSpace size map free
-counted_tells size p map processes s r free all clear = record {
+counted_tells size p map tables s r free all clear = record {
   sectors = λ q others t on. on.state_of.free_is ∙ ap (λ k. free_sectors k map) (one_geometry size map q p on.disk_is r.disk_is) ∙ sym all;
   inodes = λ q others t on.
       let held = tree_held q map others t on.state_of in
@@ -55,8 +55,8 @@ counted_tells size p map processes s r free all clear = record {
 pub tells_after : (size size' : ℕ) (old new : SectorMap) (free : FreeSpace) → size' ≡ size → SameMap new old
     → TellsSpace size old free → TellsSpace size' new free
 tells_after size size' old new free sized same told = record {
-  sectors = λ p processes s r. told.sectors p processes s (running_same size' size p new old processes processes s (sym sized) (same_back new old same) refl r);
-  inodes = λ p processes s r. told.inodes p processes s (running_same size' size p new old processes processes s (sym sized) (same_back new old same) refl r);
+  sectors = λ p tables s r. told.sectors p tables s (running_same size' size p new old tables tables s (sym sized) (same_back new old same) refl r);
+  inodes = λ p tables s r. told.inodes p tables s (running_same size' size p new old tables tables s (sym sized) (same_back new old same) refl r);
 }
 
 pub remembered_after : (size size' : ℕ) (old new : SectorMap) (free : Option FreeSpace) → size' ≡ size → SameMap new old → IsRemembered size old free

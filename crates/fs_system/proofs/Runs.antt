@@ -35,7 +35,7 @@ room_kept old new e r (step.refuses_late h q f o i j) = ap (λ s. s.room) j
 room_kept old new e r (step.acts c a i j) = ap (λ s. s.room) j
 room_kept old new e r (step.lacks_memory h f q i j) = ap (λ s. s.room) j
 room_kept old new e r (step.read_fails h f i j) = ap (λ s. s.room) j
-room_kept old new e r (step.write_fails c a i d q j) = ap (λ s. s.room) j
+room_kept old new e r (step.write_fails c a i d o q j) = ap (λ s. s.room) j
 
 -- one that was not halted was not halted before
 stayed : {A : Type 0} (old new : State) → IsFalse old.halted → new ≡ old → IsTrue new.halted → A
@@ -49,7 +49,7 @@ halting old new e r (step.refuses_late h q f o i j) runs x = stayed old new runs
 halting old new e r (step.acts c a i j) runs x = let same : new.halted ≡ old.halted = ap (λ s. s.halted) j in absurd cc
 halting old new e r (step.lacks_memory h f q i j) runs x = stayed old new runs j x
 halting old new e r (step.read_fails h f i j) runs x = ap is_io_error i
-halting old new e r (step.write_fails c a i d q j) runs x = ap is_io_error i
+halting old new e r (step.write_fails c a i d o q j) runs x = ap is_io_error i
 
 pub only_here : (t : Tree) → Contains (t ∷ []) t
 only_here t = (0, omega arith, refl)
@@ -200,9 +200,9 @@ module _ {D : Type 0} (state : D → DiskState) (counts_now : (disk : D) (t : �
       let u = found.3 in
       let as_mounted = d.each room t found.1 found.2 in
       let tree : s.tree ≡ pruned t = ap (λ q. q.tree) as_mounted.is_mounted in
-      let is : s ≡ record { room = m.state.room; tree = pruned u; processes = []; free = s.free; now = 0; halted = false } =
-      as_mounted.is_mounted ∙ ap (λ (q : Room). record { room = q; tree = pruned t; processes = []; free = s.free; now = 0; halted = false }) (sym fs.same_room)
-      ∙ ap (λ (q : Tree). record { room = m.state.room; tree = q; processes = []; free = s.free; now = 0; halted = false }) found.5 in
+      let is : s ≡ record { room = m.state.room; tree = pruned u; processes = []; openings = []; free = s.free; now = 0; halted = false } =
+      as_mounted.is_mounted ∙ ap (λ (q : Room). record { room = q; tree = pruned t; processes = []; openings = []; free = s.free; now = 0; halted = false }) (sym fs.same_room)
+      ∙ ap (λ (q : Tree). record { room = m.state.room; tree = q; processes = []; openings = []; free = s.free; now = 0; halted = false }) found.5 in
       let free : MayBeFree m.state.room (pruned u) s.free =
       subst (λ (q : Tree). MayBeFree m.state.room q s.free) found.5 (subst (λ (q : Room). MayBeFree q (pruned t) s.free) (sym fs.same_room) as_mounted.free) in (
         restarted m s true 0,
@@ -231,7 +231,7 @@ module _ {D : Type 0} (state : D → DiskState) (counts_now : (disk : D) (t : �
       let found = fs.covers (state mid).seen stop.image in
       let t = found.0 in
       let u = found.3 in
-      let s : State = record { room = m.state.room; tree = pruned u; processes = []; free = m.state.room.sectors; now = 0; halted = false } in (
+      let s : State = record { room = m.state.room; tree = pruned u; processes = []; openings = []; free = m.state.room.sectors; now = 0; halted = false } in (
         restarted m s false (mount_faults fault),
         machine.mount_fails bytes arm refl fault refl s
             (record { tree = u; is_one = found.4; free = m.state.room.sectors; may_be_free = record { least = omega arith; most = omega arith }; is = refl }) refl,

@@ -27,7 +27,9 @@ use Rattle.fs_model.specs.declared.touch.Touch.TheVariants.{Untouched}
 use Rattle.fs_model.specs.Births.{the_node}
 use Rattle.fs_model.specs.Demands.{refuse}
 use Rattle.fs_model.specs.Nodes.{Node, stamped}
-use Rattle.fs_model.specs.Processes.{ProcessTable}
+use Rattle.call_parts.specs.BothTables.{Tables, users_of}
+use Rattle.call_parts.specs.Callers.{leaving}
+use Rattle.fs_model.specs.Processes.{users}
 use Rattle.fs_model.specs.Ranges.{IsSomeCount}
 use Rattle.fs_model.specs.Stands.{HoldsPlaced, HoldsAll, placed}
 use Rattle.fs_model.specs.States.{State, IsState}
@@ -43,8 +45,8 @@ use Rattle.fs_model.proofs.OneNode.{body_not_free}
 use Rattle.fs_model.proofs.PlacedNodes.{node_below, placed_from}
 use Rattle.fs_model.proofs.Restamps.{none_moves}
 use Rattle.fs_model.proofs.StepsDemands.{unrefused}
-use Rattle.fs_model.proofs.StepsFit.{node_is_there}
-use Rattle.fs_model.proofs.StepsKinds.{MayReplace, replaced_is_tree, replaced_keeps_types, process_moves}
+use Rattle.fs_model.proofs.StepsFit.{node_is_there, processes_move, openings_move}
+use Rattle.fs_model.proofs.StepsKinds.{MayReplace, replaced_is_tree, replaced_keeps_types}
 use Rattle.fs_model.proofs.StepsSwept.{MayBeLeft, tree_may_be_left}
 use Rattle.fs_model.proofs.Unchanged.{nothing_to_drop, same_entry_stays}
 use Rattle.path_walk.proofs.HeldNodes.{held_node}
@@ -60,7 +62,7 @@ use Rattle.fs_system.proofs.StampedNodes.{stamps_fit, stamped_held}
 
 -- ---- in a state
 
-module _ {p : Geometry} {map : SectorMap} {processes : ProcessTable} {s : State} (at : IsStateOf p map processes s) (n : ℕ) (atime mtime ctime : Option ℕ) where
+module _ {p : Geometry} {map : SectorMap} {tables : Tables} {s : State} (at : IsStateOf p map tables s) (n : ℕ) (atime mtime ctime : Option ℕ) where
   abbrev event : Event
   event = Stamp n atime mtime ctime
 
@@ -111,21 +113,21 @@ module _ {p : Geometry} {map : SectorMap} {processes : ProcessTable} {s : State}
     unfolding other_refusal
     met = ap (λ (o : Option Node). refuse ENOENT (not (is_some o))) h.there
 
-    after_is : after s event (chosen 0 0) ≡ record { change = put; processes = s.processes; reply = Stamped then; now = s.now }
+    after_is : after s event (chosen 0 0 0) ≡ record { change = put; processes = s.processes; openings = s.openings; reply = Stamped then; now = s.now }
     unfolding after
     after_is = ap after_node (the_node_is s.tree n h.node h.there)
       where
         after_node : Node → After
         after_node node =
             let x = kept_stamps s.room node.stamps (stamped atime mtime ctime node.stamps) in
-            record { change = Rewrite Untouched n (with_stamps x node); processes = s.processes; reply = Stamped x; now = s.now }
+            record { change = Rewrite Untouched n (with_stamps x node); processes = s.processes; openings = s.openings; reply = Stamped x; now = s.now }
 
-    is_stamped : {new : SectorMap} (y : Stamps) → then ≡ y → HoldsAll p new (placed (swept (changed s.tree put) s.processes)) → IsStamped p new s n atime mtime ctime y
+    is_stamped : {new : SectorMap} (y : Stamps) → then ≡ y → HoldsAll p new (placed (swept (changed s.tree put) (users s.processes s.openings))) → IsStamped p new s n atime mtime ctime y
     is_stamped {new} y is held = record {
       late = met;
       reply = ap (λ (a : After). a.reply) after_is ∙ ap (λ (z : Stamps). Stamped z) is;
       holds = subst (λ (t : Tree). HoldsAll p new (placed t))
-          (sym (ap (tree_after s) after_is ∙ none_moves s.room s.tree s.now n (with_stamps then h.node) (swept (changed s.tree put) s.processes))) held;
+          (sym (ap (tree_after s) after_is ∙ none_moves s.room s.tree s.now n (with_stamps then h.node) (swept (changed s.tree put) (users s.processes s.openings)))) held;
     }
 
     -- nothing was put: the disk keeps no times, or none is given
@@ -133,9 +135,9 @@ module _ {p : Geometry} {map : SectorMap} {processes : ProcessTable} {s : State}
     same_stamped same y is =
         is_stamped y (same ∙ sym h.held.stamps ∙ sym is)
         (subst (λ (t : Tree). HoldsAll p map (placed t))
-        (sym (ap (λ (x : Stamps). swept (with_node s.tree n (with_stamps x h.node)) s.processes) same
-        ∙ ap (λ (t : Tree). swept t s.processes) (same_entry_stays s.tree n h.node at.is_state.tree.numbers h.there)
-        ∙ nothing_to_drop s.room s.tree s.processes at.is_state.tree (at.is_state.processes at.up))) at.holds)
+        (sym (ap (λ (x : Stamps). swept (with_node s.tree n (with_stamps x h.node)) (users s.processes s.openings)) same
+        ∙ ap (λ (t : Tree). swept t (users s.processes s.openings)) (same_entry_stays s.tree n h.node at.is_state.tree.numbers h.there)
+        ∙ nothing_to_drop s.room s.tree s.processes s.openings at.is_state.tree (at.is_state.processes at.up))) at.holds)
 
     pub no_times : keeps_times p.version ≡ false → then ≡ h.node.stamps
     no_times none =
@@ -178,7 +180,7 @@ module _ {p : Geometry} {map : SectorMap} {processes : ProcessTable} {s : State}
       pub saved_stamped : (y : Stamps) → y ≡ stamped atime mtime ctime (stamps_in (inode_at p map n)) → IsStamped p new s n atime mtime ctime y
       saved_stamped y is =
           is_stamped y (sym (is ∙ then_is))
-          (subst (λ (d : ProcessTable). HoldsAll p new (placed (swept (changed s.tree put) d))) (sym at.same_processes)
+          (subst (λ (d : Tables). HoldsAll p new (placed (swept (changed s.tree put) (users_of d)))) (sym at.same_tables)
           (rewritten at new Untouched n h.node (with_stamps then h.node) h.there may one held_then))
 
 -- ---- where nothing refuses it
@@ -189,7 +191,7 @@ stamp_firm s n atime mtime ctime = refl
 
 -- what it may leave
 stamp_leaves : (s : State) (n : ℕ) (atime mtime ctime : Option ℕ) → IsState s → IsFalse s.halted → IsSomeCount atime → IsSomeCount mtime → IsSomeCount ctime
-    → other_refusal s (Stamp n atime mtime ctime) ≡ None → MayBeLeft s.room (changed s.tree (after_stamp s n (stamped atime mtime ctime)).change) s.processes
+    → other_refusal s (Stamp n atime mtime ctime) ≡ None → MayBeLeft s.room (changed s.tree (after_stamp s n (stamped atime mtime ctime)).change) s.processes s.openings
 unfolding other_refusal
 stamp_leaves s n atime mtime ctime is up a m c met =
     let node = the_node s.tree n in
@@ -205,31 +207,34 @@ stamp_leaves s n atime mtime ctime is up a m c met =
       stamps = stamps_fit atime mtime ctime s.room.keeps_times node.stamps a m c was.stamps;
     } in
     let u = with_node s.tree n (with_stamps x node) in
-    tree_may_be_left s.room u s.processes (replaced_is_tree s.room s.tree n node (with_stamps x node) is.tree there may) is.pids is.few
-    (λ pid p at. process_moves s.tree u (replaced_keeps_types s.tree n node (with_stamps x node) there refl) p ((is.processes up).each_process pid p at))
+    let types = replaced_keeps_types s.tree n node (with_stamps x node) there refl in
+    tree_may_be_left s.room u s.processes s.openings (replaced_is_tree s.room s.tree n node (with_stamps x node) is.tree there may) is.pids is.few
+    (processes_move s is up u types) is.handles (openings_move s is up u types)
 
 abbrev put_after : State → ℕ → Option ℕ → Option ℕ → Option ℕ → After
 put_after s n atime mtime ctime = after_stamp s n (stamped atime mtime ctime)
 
-pub stamp_performed : {p : Geometry} {map old_map : SectorMap} {processes : ProcessTable} {s : State} {n : ℕ} {atime mtime ctime : Option ℕ} {x : Stamps}
-    → IsStateOf p old_map processes s → AreCounts atime mtime ctime → IsStamped p map s n atime mtime ctime x
-    → IsPerformed p map processes s (Stamp n atime mtime ctime) (Stamped x)
+pub stamp_performed : {p : Geometry} {map old_map : SectorMap} {tables : Tables} {s : State} {n : ℕ} {atime mtime ctime : Option ℕ} {x : Stamps}
+    → IsStateOf p old_map tables s → AreCounts atime mtime ctime → IsStamped p map s n atime mtime ctime x
+    → IsPerformed p map tables s (Stamp n atime mtime ctime) (Stamped x)
 unfolding after
-stamp_performed {p} {map} {old_map} {processes} {s} {n} {atime} {mtime} {ctime} {x} at counts d = record {
+stamp_performed {p} {map} {old_map} {tables} {s} {n} {atime} {mtime} {ctime} {x} at counts d = record {
   machine = refl;
   unstable = refl;
   early = stamp_firm s n atime mtime ctime;
   late = d.late;
   number = 0;
+  handle = 0;
   change = (put_after s n atime mtime ctime).change;
   effect = λ free.
-      ap (λ (t : ProcessTable). record { change = (put_after s n atime mtime ctime).change; processes = t; reply = (put_after s n atime mtime ctime).reply; now = s.now }) at.same_processes
-      ∙ ap (λ (r : Reply). record { change = (put_after s n atime mtime ctime).change; processes = processes; reply = r; now = s.now }) d.reply;
+      ap (λ (t : Tables). leaving s t (put_after s n atime mtime ctime).change (put_after s n atime mtime ctime).reply) at.same_tables
+      ∙ ap (λ (r : Reply). leaving s tables (put_after s n atime mtime ctime).change r) d.reply;
   new_number = tt;
   new_pid = tt;
-  left = subst (λ (t : ProcessTable). MayBeLeft s.room (changed s.tree (put_after s n atime mtime ctime).change) t) at.same_processes
+  new_handle = tt;
+  left = subst (λ (t : Tables). MayBeLeft s.room (changed s.tree (put_after s n atime mtime ctime).change) t.processes t.openings) at.same_tables
       (stamp_leaves s n atime mtime ctime at.is_state at.up counts.0 counts.1 counts.2 d.late);
-  holds = subst (λ (t : ProcessTable). HoldsAll p map (placed (touched s.now (touches s.room s.tree (put_after s n atime mtime ctime).change) (swept (changed s.tree (put_after s n atime mtime ctime).change) t)))) at.same_processes
+  holds = subst (λ (t : Tables). HoldsAll p map (placed (touched s.now (touches s.room s.tree (put_after s n atime mtime ctime).change) (swept (changed s.tree (put_after s n atime mtime ctime).change) (users_of t))))) at.same_tables
       d.holds;
 }
 

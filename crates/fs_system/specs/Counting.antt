@@ -12,17 +12,17 @@ use Rattle.fs_layout.specs.Bytes.{SectorMap}
 use Rattle.fs_layout.specs.Header.{header_of}
 use Rattle.sector_disk.specs.Disk.{DiskState, Elapses, IsSame}
 use Rattle.sector_txn.specs.Sectors.{TxnState}
-use Rattle.fs_model.specs.Processes.{ProcessTable}
 use Rattle.fs_model.specs.States.{State}
 use Rattle.fs_model.specs.Trees.{free_inodes}
+use Rattle.call_parts.specs.BothTables.{Tables}
 use Rattle.fs_system.specs.declared.counted.FreeSpace.{FreeSpace}
 use Rattle.fs_system.specs.declared.counted.KnownSpace.{KnownSpace}
 use Rattle.fs_system.specs.Running.{IsRunning}
 
 -- On a disk of so many sectors these are the free sectors and inodes of each state in which the map goes on.
 pub record TellsSpace (size : ℕ) (map : SectorMap) (free : FreeSpace) : Type 0 where
-  pub sectors : (p : Geometry) (processes : ProcessTable) (s : State) → IsRunning size p map processes s → s.free ≡ free.sectors
-  pub inodes : (p : Geometry) (processes : ProcessTable) (s : State) → IsRunning size p map processes s → free_inodes s.room s.tree ≡ free.inodes
+  pub sectors : (p : Geometry) (tables : Tables) (s : State) → IsRunning size p map tables s → s.free ≡ free.sectors
+  pub inodes : (p : Geometry) (tables : Tables) (s : State) → IsRunning size p map tables s → free_inodes s.room s.tree ≡ free.inodes
 
 abbrev pub IsRemembered : ℕ → SectorMap → Option FreeSpace → Type 0
 IsRemembered size map free = IfSome free (TellsSpace size map)

@@ -15,7 +15,7 @@ use Rattle.fs_images.specs.Standing.{StandsFor, StandsForSome, StandsAsPruned, E
 
 -- the state as a mount leaves it, until the time is told
 abbrev pub mounted : Room → Tree → ℕ → State
-mounted room t free = record { room = room; tree = pruned t; processes = []; free = free; now = 0; halted = false }
+mounted room t free = record { room = room; tree = pruned t; processes = []; openings = []; free = free; now = 0; halted = false }
 
 -- The state is that of a mount on this tree, and each image stands for that tree, but for files without names.
 pub record IsMounted (now : DiskState) (room : Room) (tree : Tree) (s : State) : Type 0 where

@@ -24,8 +24,8 @@ AreCounts atime mtime ctime = IsSomeCount atime × IsSomeCount mtime × IsSomeCo
 -- Nothing refuses it. It answers these times, and the map holds the tree after it.
 pub record IsStamped (p : Geometry) (map : SectorMap) (s : State) (n : ℕ) (atime mtime ctime : Option ℕ) (stamps : Stamps) : Type 0 where
   pub late : other_refusal s (Stamp n atime mtime ctime) ≡ None
-  pub reply : (after s (Stamp n atime mtime ctime) (chosen 0 0)).reply ≡ Stamped stamps
-  pub holds : HoldsAll p map (placed (tree_after s (after s (Stamp n atime mtime ctime) (chosen 0 0))))
+  pub reply : (after s (Stamp n atime mtime ctime) (chosen 0 0 0)).reply ≡ Stamped stamps
+  pub holds : HoldsAll p map (placed (tree_after s (after s (Stamp n atime mtime ctime) (chosen 0 0 0))))
 
 -- Stamping is refused: the inode isn't there, or a read failed.
 pub data IsNotStamped (old new : DiskState) (s : State) (n : ℕ) (atime mtime ctime : Option ℕ) (e : Errno) : Type 0 where

@@ -2,7 +2,7 @@
 
 ghost use Rattle.std.specs.Prelude.{◌≡◌, ◌∷◌, [], Ok, IsTrue};
 ghost use Rattle.fs_model.specs.Steps.{is_of_machine};
-ghost use Rattle.fs_model.specs.declared.event.Event.TheVariants.{Call as Calls, Spawn};
+ghost use Rattle.fs_model.specs.declared.event.Event.TheVariants.{Call as Calls, CallAt, CallBy};
 ghost use Rattle.fs_model.specs.declared.event.EventReply.TheVariants.{Reply as Replies};
 ghost use Rattle.fs_system.specs.Doing.{Happens};
 ghost use Rattle.fs_system.specs.Playing.{Plays};
@@ -10,8 +10,8 @@ ghost use Rattle.fs_system.specs.Mounting.{LeavesHalted};
 ghost use Rattle.fs_system.specs.Replies.{spawned, finished, counted, stamped_reply};
 
 use crate::fs::Fs;
-use fs_cred::{Cred, Errno, Refusal};
-use fs_model::{Call, Event, Reply, Stamps};
+use fs_cred::{Errno, Refusal};
+use fs_model::{Actor, Call, Event, HandleCall, Reply, Stamps};
 use sector_disk::Disk;
 
 // The reply to spawn.
@@ -24,7 +24,7 @@ fn spawned(outcome: Result<usize, Errno>) -> Reply
     }
 }
 
-// The reply to exit, enter, clock, fsync and sync.
+// The reply to exit, clock, fsync and sync.
 fn finished(outcome: Result<(), Errno>) -> Reply
     ensures { result ≡ finished outcome }
 {
@@ -68,11 +68,7 @@ impl<D: Disk + Drop> Fs<D> {
             Event::Exit(pid) => finished(self.exit(*pid)),
             Event::Call(pid, call) => self.call(*pid, call),
             Event::CallAt(actor, call) => self.call_at(actor, call),
-            Event::Enter {
-                pid,
-                dir_ino,
-                second_ino,
-            } => finished(self.enter(*pid, *dir_ino, *second_ino)),
+            Event::CallBy(handle, call) => self.call_by(*handle, call),
             Event::Stamp {
                 ino,
                 atime,
@@ -104,11 +100,19 @@ impl<D: Disk + Drop> Fs<D> {
         self.call(pid, call)
     }
 
-    /// Lets the disk forget its past, and then begins a process, which gets a copy of this credential.
-    pub fn serve_spawn(&mut self, cred: &Cred) -> Reply
-        ensures { Plays D.state (Ok self.old) (Spawn cred.now ∷ []) (Replies result ∷ []) (Ok self.new) }
+    /// Lets the disk forget its past, and then answers a call of an actor.
+    pub fn serve_call_at(&mut self, actor: &Actor, call: &Call) -> Reply
+        ensures { Plays D.state (Ok self.old) (CallAt actor.now call.now ∷ []) (Replies result ∷ []) (Ok self.new) }
     {
         self.forget();
-        spawned(self.spawn_copy(cred))
+        self.call_at(actor, call)
+    }
+
+    /// Lets the disk forget its past, and then does what is asked by a handle.
+    pub fn serve_call_by(&mut self, handle: u64, call: &HandleCall) -> Reply
+        ensures { Plays D.state (Ok self.old) (CallBy handle call.now ∷ []) (Replies result ∷ []) (Ok self.new) }
+    {
+        self.forget();
+        self.call_by(handle, call)
     }
 }

@@ -4,7 +4,7 @@ ghost use Rattle.std.specs.Prelude.{◌≡◌, ℕ, Some};
 ghost use Rattle.sector_disk.specs.Disk.{IsSame, ForgetsPast};
 ghost use Rattle.fs_layout.specs.declared.geometry.Geometry.{Geometry};
 ghost use Rattle.sector_txn.specs.Stores.{StoreView};
-ghost use Rattle.fs_model.specs.Processes.{ProcessTable};
+ghost use Rattle.call_parts.specs.BothTables.{Tables};
 ghost use Rattle.fs_model.specs.States.{State};
 ghost use Rattle.fs_system.specs.declared.base.Base.TheVariants.{Running};
 ghost use Rattle.fs_system.specs.Mounting.{is_halted};
@@ -37,8 +37,8 @@ impl<D: Disk> Base<D> {
 
     /// Its disk lets go of what it keeps of its past.
     pub(crate) fn forget_past(&mut self)
-        ensures stays { (p : Geometry) (time : ℕ) (processes : ProcessTable) (s : State)
-            → IsOn D.state p time processes self.old s → IsOn D.state p time processes self.new s }
+        ensures stays { (p : Geometry) (time : ℕ) (tables : Tables) (s : State)
+            → IsOn D.state p time tables self.old s → IsOn D.state p time tables self.new s }
         ensures past { ForgetsPast (disk_in D.state self.old) (disk_in D.state self.new) }
     {
         match self {
@@ -87,8 +87,8 @@ impl<D: Disk + Drop> Base<D> {
 impl<D: CrashDisk> Base<D> {
     /// Lets this many writes and syncs of the disk pass, and fails all later ones.
     pub(crate) fn arm(&mut self, passes: u64)
-        ensures stays { (p : Geometry) (time : ℕ) (processes : ProcessTable) (s : State)
-            → IsOn D.state p time processes self.old s → IsOn D.state p time processes self.new s }
+        ensures stays { (p : Geometry) (time : ℕ) (tables : Tables) (s : State)
+            → IsOn D.state p time tables self.old s → IsOn D.state p time tables self.new s }
         ensures same { IsSame (disk_in D.state self.old) (disk_in D.state self.new) }
         ensures failures { (disk_in D.state self.new).failures ≡ (disk_in D.state self.old).failures }
         ensures armed { (disk : D) → HasDisk self.new disk → D.armed disk ≡ Some passes }

@@ -1,17 +1,16 @@
-//! The calls of processes and of actors, each of them performed in a transaction.
+//! The calls of processes and of actors, and what is done by handles, each of them performed in a transaction.
 
-ghost use Rattle.std.specs.Prelude.{IsFalse};
-ghost use Rattle.call_parts.specs.Performing.{MayPerform, Performs};
-ghost use Rattle.call_parts.specs.Callers.{ByProcess, HasCredential, who_of};
+ghost use Rattle.std.specs.Prelude.{◌≡◌, ◌||◌, not, IsFalse, IsTrue, MatchOption};
+ghost use Rattle.call_parts.specs.BothTables.{both};
+ghost use Rattle.call_parts.specs.Performing.{MayPerform, Performs, IsReadyFor, PerformsFor};
+ghost use Rattle.call_parts.specs.Callers.{ByProcess, ByCaller, HasCredential, opens, who_of};
 ghost use Rattle.fs_model.specs.Actors.{is_actor_call};
 
-use call_parts::{Asker, By, Caller};
+use call_parts::{By, Caller, Site};
 use fs_cred::{Errno, Refusal};
-use fs_layout::Geometry;
 use fs_model::{Call, Reply};
-use open_files::Procs;
+use open_files::{Openings, Procs};
 use sector_txn::Sectors;
-use std::alloc::Global;
 
 /// Shows that the numbers of an actor's credential are in range.
 pub(crate) fn credential_is_in_range(by: By)
@@ -26,52 +25,65 @@ pub(crate) fn credential_is_in_range(by: By)
 // Performs a call that processes alone make.
 fn perform_for_process<S: Sectors>(
     s: &mut S,
-    asker: Asker,
+    site: Site,
     procs: &mut Procs,
+    openings: &mut Openings,
+    pid: usize,
     call: &Call,
 ) -> Result<Reply, Refusal>
-    requires ready { MayPerform asker.geometry (S.state s.old) procs.old }
+    requires ready { MayPerform site.geometry (S.state s.old) (both procs.old openings.old.0) }
     requires alone { IsFalse (is_actor_call call.now) }
-    ensures { Performs asker.geometry asker.time (ByProcess asker.pid) call.now (S.state s.old) (S.state s.new) procs.old procs.new result }
+    ensures { Performs site.geometry site.time (ByCaller (ByProcess pid) call.now) (S.state s.old) (S.state s.new)
+        (both procs.old openings.old.0) (both procs.new openings.new.0) result }
 {
-    if let Some(result) = file_calls::perform_for_process(s, asker, procs, call) {
+    if let Some(result) = file_calls::perform_for_process(s, site, procs, openings, pid, call) {
         return result;
     }
-    match name_calls::perform_for_process(s, asker, procs, call) {
+    match name_calls::perform_for_process(s, site, procs, openings, pid, call) {
         Some(result) => result,
         None => unreachable!(),
     }
+}
+
+// Performs a call by its path, which leaves both tables as they are. `None`: it opens something, or no actor makes it.
+fn perform_by_path<S: Sectors>(
+    s: &mut S,
+    caller: &Caller,
+    call: &Call,
+) -> Option<Result<Reply, Refusal>>
+    requires ready { IsReadyFor caller.now (S.state s.old) }
+    ensures { MatchOption result (IsTrue (not (is_actor_call call.now) || opens call.now) × (s.new ≡ s.old))
+        (λ r. PerformsFor caller.now call.now (S.state s.old) (S.state s.new) r) }
+{
+    if let Some(result) = file_calls::perform(s, caller, call) {
+        return Some(result);
+    }
+    name_calls::perform(s, caller, call)
 }
 
 /// Performs a call at this time. At `Err` its changes are to be dropped. ESRCH: there is no such process. EBADF: no actor makes such a
 /// call.
 pub(crate) fn perform<S: Sectors>(
     s: &mut S,
-    alloc: Global,
-    geometry: Geometry,
-    time: u64,
+    site: Site,
     by: By,
     procs: &mut Procs,
+    openings: &mut Openings,
     call: &Call,
 ) -> Result<Reply, Refusal>
-    requires ready { MayPerform geometry (S.state s.old) procs.old }
-    ensures { Performs geometry time (who_of by.entry) call.now (S.state s.old) (S.state s.new) procs.old procs.new result }
+    requires ready { MayPerform site.geometry (S.state s.old) (both procs.old openings.old.0) }
+    ensures { Performs site.geometry site.time (ByCaller (who_of by.entry) call.now) (S.state s.old) (S.state s.new)
+        (both procs.old openings.old.0) (both procs.new openings.new.0) result }
 {
-    let caller = Caller::new(alloc, geometry, time, procs, by);
-    if let Some(result) = file_calls::perform(s, &caller, call) {
-        return result;
+    if let Call::Open(path, flags, mode) = call {
+        return file_calls::open(s, site, procs, openings, by, path, *flags, *mode);
     }
-    if let Some(result) = name_calls::perform(s, &caller, call) {
+    let caller = site.caller(procs, openings, by);
+    if let Some(result) = perform_by_path(s, &caller, call) {
         return result;
     }
     let By::Process(pid) = by else {
         return Err(Refusal::Failed(Errno::EBADF));
     };
-    let asker = Asker {
-        alloc,
-        geometry,
-        time,
-        pid,
-    };
-    perform_for_process(s, asker, procs, call)
+    perform_for_process(s, site, procs, openings, pid, call)
 }

@@ -7,7 +7,7 @@ ghost use Rattle.redo_journal.specs.States.{IsIdle};
 ghost use Rattle.sector_txn.specs.Stores.{present};
 ghost use Rattle.fs_model.specs.States.{State};
 ghost use Rattle.fs_model.specs.declared.event.Event.{Event};
-ghost use Rattle.fs_model.specs.declared.event.Event.TheVariants.{Spawn, Exit, Call as Calls, CallAt, Enter, Stamp, Clock, Fsync, Sync, Statfs};
+ghost use Rattle.fs_model.specs.declared.event.Event.TheVariants.{Spawn, Exit, Call as Calls, CallAt, CallBy, Stamp, Clock, Fsync, Sync, Statfs};
 ghost use Rattle.fs_system.specs.Playing.{HasDisk};
 ghost use Rattle.fs_system.specs.Mounts.{Mounts, FailsToMount, IsNotMounted};
 ghost use Rattle.fs_system.specs.Mounting.{StandsAsBefore, disk_mounted, disk_of_store, is_halted, LeavesHalted};
@@ -21,24 +21,26 @@ ghost use Rattle.fs_model.specs.declared.event.RestartFault.TheVariants.{DiskFau
 use crate::base::Base;
 use crate::counted::CountedStore;
 use crate::faults::MountFault;
-use crate::stored::{count_space, enter_kept, exit_kept, failed, perform_kept, stamp_kept};
+use crate::stored::{
+    count_space, exit_kept, failed, perform_by_handle_kept, perform_kept, stamp_kept,
+};
 use crate::sweeping::sweep;
-use call_parts::By;
+use call_parts::{By, Site};
 use free_counts::FreeCounts;
 use fs_check::check;
 use fs_cred::{Cred, Errno};
 use fs_layout::{Geometry, Super};
-use fs_model::{Actor, Call, Reply, RestartFault, Stamps};
-use open_files::Procs;
+use fs_model::{Actor, Call, HandleCall, Reply, RestartFault, Stamps};
+use open_files::{Openings, Procs};
 use redo_journal::{Journal, OpenFault};
 use sector_disk::{CrashDisk, Disk, DiskFault};
 use sector_txn::Store;
 use std::alloc::Global;
 use std::marker::Model;
 
-/// A file system on a disk, with its processes.
+/// A file system on a disk, with its processes and what actors have open.
 ///
-/// A contract sees its disk, where the parts of that lie, the processes, and the time as it was told last, which is 0 at
+/// A contract sees its disk, where the parts of that lie, the processes, the handles, and the time as it was told last, which is 0 at
 /// first. After a commit that fails it is halted: each call answers EIO, and the disk isn't called any more.
 #[derive(Drop)]
 pub struct Fs<D: Disk> {
@@ -46,6 +48,8 @@ pub struct Fs<D: Disk> {
     base: Base<D>,
     geometry: Geometry,
     procs: Procs,
+    // What actors have open.
+    openings: Openings,
     // In nanoseconds since 1970; 0 until it is told.
     time: u64,
     alloc: Global,
@@ -57,10 +61,10 @@ impl<D: Disk> Model for Fs<D> {
 
     ghost Value = { System D };
 
-    ghost view = { λ fs. record { base = fs.base; geometry = fs.geometry; processes = fs.procs; time = fs.time } };
+    ghost view = { λ fs. record { base = fs.base; geometry = fs.geometry; processes = fs.procs; openings = fs.openings.0; time = fs.time } };
 
     // A file system is in some state, and a stop leaves what may be mounted.
-    ghost invariant = { λ fs. IsSystem D.state (record { base = fs.base; geometry = fs.geometry; processes = fs.procs; time = fs.time }) };
+    ghost invariant = { λ fs. IsSystem D.state (record { base = fs.base; geometry = fs.geometry; processes = fs.procs; openings = fs.openings.0; time = fs.time }) };
 }
 
 // Reads where the parts of the disk lie.
@@ -129,6 +133,7 @@ impl<D: Disk + Drop> Fs<D> {
                     base: Base::Running(CountedStore::uncounted(store, counts)),
                     geometry,
                     procs: Procs::new(alloc),
+                    openings: Openings::new(alloc),
                     time: 0,
                     alloc,
                 }),
@@ -138,7 +143,7 @@ impl<D: Disk + Drop> Fs<D> {
         }
     }
 
-    /// The file system that the disk stands for, without processes. Files without names, which a stop may have left, are
+    /// The file system that the disk stands for, without processes or handles. Files without names, which a stop may have left, are
     /// freed. An error gives the disk back; where it is that of the device or of memory, the disk may be mounted again.
     ///
     /// The disk is checked first, and a disk that stands for no tree is only read.
@@ -239,37 +244,8 @@ impl<D: Disk + Drop> Fs<D> {
             return Err(Errno::EIO);
         }
         let store = self.base.take();
-        let (done, base) = exit_kept(store, self.geometry, &mut self.procs, pid);
+        let (done, base) = exit_kept(store, self.geometry, &mut self.procs, &self.openings, pid);
         self.base.put(base);
-        done
-    }
-
-    /// Puts a process into a directory, and lets the second path of its rename and link start at another: inodes by their
-    /// numbers. Both stay in use until it leaves them.
-    ///
-    /// Who calls this is trusted, as with `spawn`: no permission is asked.
-    ///
-    /// # Errors
-    ///
-    /// EIO where a read failed or the file system is halted, ESRCH where there is no such process, ENOENT where one of both
-    /// isn't there, and ENOTDIR where one is no directory.
-    pub fn enter(&mut self, pid: usize, dir_ino: u32, second_ino: u32) -> Result<(), Errno>
-        ensures does { Happens D.state self.old self.new (Enter pid dir_ino second_ino) (finished result) }
-        ensures halted { LeavesHalted self.old self.new }
-    {
-        if self.is_halted() {
-            return Err(Errno::EIO);
-        }
-        let store = self.base.take();
-        let (done, store) = enter_kept(
-            store,
-            self.geometry,
-            &mut self.procs,
-            pid,
-            dir_ino,
-            second_ino,
-        );
-        self.base.put(Ok(store));
         done
     }
 
@@ -317,6 +293,7 @@ impl<D: Disk + Drop> Fs<D> {
             store,
             self.geometry,
             &self.procs,
+            &self.openings,
             ino,
             atime,
             mtime,
@@ -337,12 +314,16 @@ impl<D: Disk + Drop> Fs<D> {
             return failed(Errno::EIO);
         }
         let store = self.base.take();
+        let site = Site {
+            alloc: self.alloc,
+            geometry: self.geometry,
+            time: self.time,
+        };
         let (reply, base) = perform_kept(
-            self.alloc,
             store,
-            self.geometry,
-            self.time,
+            site,
             &mut self.procs,
+            &mut self.openings,
             By::Process(pid),
             call,
         );
@@ -362,13 +343,46 @@ impl<D: Disk + Drop> Fs<D> {
             return failed(Errno::EIO);
         }
         let store = self.base.take();
+        let site = Site {
+            alloc: self.alloc,
+            geometry: self.geometry,
+            time: self.time,
+        };
         let (reply, base) = perform_kept(
-            self.alloc,
             store,
-            self.geometry,
-            self.time,
+            site,
             &mut self.procs,
+            &mut self.openings,
             By::Actor(actor),
+            call,
+        );
+        self.base.put(base);
+        reply
+    }
+
+    /// What is done by a handle, whoever has got it. EBADF: there is no such handle, or it isn't for that.
+    ///
+    /// A handle is a secret of who opens: no permission is asked again. After a read that fails nothing has changed, and the call may be
+    /// made again.
+    pub fn call_by(&mut self, handle: u64, call: &HandleCall) -> Reply
+        ensures does { Happens D.state self.old self.new (CallBy handle call.now) result }
+        ensures halted { LeavesHalted self.old self.new }
+    {
+        if self.is_halted() {
+            return failed(Errno::EIO);
+        }
+        let store = self.base.take();
+        let site = Site {
+            alloc: self.alloc,
+            geometry: self.geometry,
+            time: self.time,
+        };
+        let (reply, base) = perform_by_handle_kept(
+            store,
+            site,
+            &mut self.procs,
+            &mut self.openings,
+            handle,
             call,
         );
         self.base.put(base);
@@ -439,7 +453,7 @@ impl<D: Disk + Drop> Fs<D> {
             return Err(Errno::EIO);
         }
         let store = self.base.take();
-        let (free, store) = count_space(store, self.geometry, &self.procs);
+        let (free, store) = count_space(store, self.geometry, &self.procs, &self.openings);
         self.base.put(Ok(store));
         free
     }
@@ -452,6 +466,7 @@ impl<D: Disk + Drop> Fs<D> {
         ensures geometry { self.new.geometry ≡ self.old.geometry }
         ensures time { self.new.time ≡ self.old.time }
         ensures processes { self.new.processes ≡ self.old.processes }
+        ensures openings { self.new.openings ≡ self.old.openings }
         ensures past { ForgetsPast (disk_in D.state self.old.base) (disk_in D.state self.new.base) }
     {
         self.base.forget_past();

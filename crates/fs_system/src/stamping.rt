@@ -5,7 +5,7 @@ ghost use Rattle.sector_txn.specs.Sectors.{SameStore};
 ghost use Rattle.bit_alloc.specs.Inodes.{IsSound};
 ghost use Rattle.bit_alloc.specs.Room.{HasSpare};
 ghost use Rattle.fs_model.specs.Nodes.{stamped};
-ghost use Rattle.fs_model.specs.Processes.{ProcessTable};
+ghost use Rattle.call_parts.specs.BothTables.{Tables};
 ghost use Rattle.fs_model.specs.Ranges.{IsSomeCount};
 ghost use Rattle.fs_model.specs.States.{State};
 ghost use Rattle.fs_model.specs.StoredStamps.{stamps_in};
@@ -85,7 +85,7 @@ pub(crate) fn stamp<S: Sectors>(
     requires spare { HasSpare geometry 1 (S.state s.old) }
     ensures store { SameStore (S.state s.old) (S.state s.new) }
     ensures superblock { OnOk result ((S.state s.new).sectors 0 ≡ (S.state s.old).sectors 0) }
-    ensures each { (processes : ProcessTable) (t : State) → IsStateOf geometry (S.state s.old).sectors processes t
+    ensures each { (tables : Tables) (t : State) → IsStateOf geometry (S.state s.old).sectors tables t
         → MatchResult result (λ stamps. IsStamped geometry (S.state s.new).sectors t ino atime mtime ctime stamps)
         (λ errno. IsNotStamped (S.state s.old).disk (S.state s.new).disk t ino atime mtime ctime errno) }
 {

@@ -1,11 +1,11 @@
 //! What events do to a store.
 
 ghost use Rattle.std.specs.Prelude.{◌≡◌};
+ghost use Rattle.call_parts.specs.BothTables.{both};
 ghost use Rattle.call_parts.specs.Callers.{event, who_of};
 ghost use Rattle.sector_txn.specs.Stores.{present, disk_after};
 ghost use Rattle.fs_model.specs.States.{State};
-ghost use Rattle.fs_model.specs.declared.event.Event.TheVariants.{Enter, Exit, Stamp, Statfs};
-ghost use Rattle.fs_system.specs.declared.base.Base.TheVariants.{Running};
+ghost use Rattle.fs_model.specs.declared.event.Event.TheVariants.{CallBy, Exit, Stamp, Statfs};
 ghost use Rattle.fs_system.specs.Running.{IsRunning};
 ghost use Rattle.fs_system.specs.Seen.{IsOn, base_left};
 ghost use Rattle.fs_system.specs.Doing.{Does};
@@ -16,16 +16,14 @@ ghost use Rattle.fs_cred.specs.declared.refusal.Refusal.TheVariants.{Failed};
 use crate::calls::{credential_is_in_range, perform};
 use crate::counted::{CountedStore, count_both, drop_delta, keep};
 use crate::stamping::{stamp, times_are_in_range};
-use call_parts::By;
-use file_calls::exit;
+use call_parts::{By, Site};
+use file_calls::{exit, perform_by_handle};
 use fs_cred::{Errno, Refusal};
 use fs_layout::Geometry;
-use fs_model::{Call, Reply, Stamps, call_is_in_range};
-use name_calls::enter;
-use open_files::Procs;
+use fs_model::{Call, HandleCall, Reply, Stamps, call_is_in_range, handle_call_is_in_range};
+use open_files::{Openings, Procs};
 use redo_journal::Broken;
 use sector_disk::{Disk, DiskFault};
-use std::alloc::Global;
 
 /// The reply to a call that fails.
 pub(crate) fn failed(errno: Errno) -> Reply
@@ -36,23 +34,51 @@ pub(crate) fn failed(errno: Errno) -> Reply
 
 /// Performs a call at this time. Its changes are kept whole, or where it is refused, not at all. At `Err` a commit has failed.
 pub(crate) fn perform_kept<D: Disk>(
-    alloc: Global,
     store: CountedStore<D>,
-    geometry: Geometry,
-    now: u64,
+    site: Site,
     procs: &mut Procs,
+    openings: &mut Openings,
     by: By,
     call: &Call,
 ) -> (Reply, Result<CountedStore<D>, Broken<D>>)
-    requires running { (s : State) × IsRunning (D.state store.disk).size geometry (present D.state store) procs.old s }
-    ensures does { (s : State) → IsRunning (D.state store.disk).size geometry (present D.state store) procs.old s → s.now ≡ now
-        → (t : State) × IsOn D.state geometry s.now procs.new (base_left result.1) t
+    requires running { (s : State)
+        × IsRunning (D.state store.disk).size site.geometry (present D.state store) (both procs.old openings.old.0) s }
+    ensures does { (s : State) → IsRunning (D.state store.disk).size site.geometry (present D.state store) (both procs.old openings.old.0) s
+        → s.now ≡ site.time
+        → (t : State) × IsOn D.state site.geometry s.now (both procs.new openings.new.0) (base_left result.1) t
         × Does (D.state store.disk) (D.state (disk_after result.1)) s (event (who_of by.entry) call.now) result.0 t }
 {
     call_is_in_range(call);
     credential_is_in_range(by);
     let (mut txn, known) = store.begin();
-    match perform(&mut txn, alloc, geometry, now, by, procs, call) {
+    match perform(&mut txn, site, by, procs, openings, call) {
+        Ok(reply) => match keep(txn, known) {
+            Ok(store) => (reply, Ok(store)),
+            Err(broken) => (failed(Errno::EIO), Err(broken)),
+        },
+        Err(refusal) => (Reply::Refused(refusal), Ok(drop_delta(txn, known))),
+    }
+}
+
+/// Performs what is done by a handle, at this time, as [`perform_kept`] does a call.
+pub(crate) fn perform_by_handle_kept<D: Disk>(
+    store: CountedStore<D>,
+    site: Site,
+    procs: &mut Procs,
+    openings: &mut Openings,
+    handle: u64,
+    call: &HandleCall,
+) -> (Reply, Result<CountedStore<D>, Broken<D>>)
+    requires running { (s : State)
+        × IsRunning (D.state store.disk).size site.geometry (present D.state store) (both procs.old openings.old.0) s }
+    ensures does { (s : State) → IsRunning (D.state store.disk).size site.geometry (present D.state store) (both procs.old openings.old.0) s
+        → s.now ≡ site.time
+        → (t : State) × IsOn D.state site.geometry s.now (both procs.new openings.new.0) (base_left result.1) t
+        × Does (D.state store.disk) (D.state (disk_after result.1)) s (CallBy handle call.now) result.0 t }
+{
+    handle_call_is_in_range(call);
+    let (mut txn, known) = store.begin();
+    match perform_by_handle(&mut txn, site, procs, openings, handle, call) {
         Ok(reply) => match keep(txn, known) {
             Ok(store) => (reply, Ok(store)),
             Err(broken) => (failed(Errno::EIO), Err(broken)),
@@ -67,15 +93,17 @@ pub(crate) fn exit_kept<D: Disk>(
     store: CountedStore<D>,
     geometry: Geometry,
     procs: &mut Procs,
+    openings: &Openings,
     pid: usize,
 ) -> (Result<(), Errno>, Result<CountedStore<D>, Broken<D>>)
-    requires running { (s : State) × IsRunning (D.state store.disk).size geometry (present D.state store) procs.old s }
-    ensures does { (s : State) → IsRunning (D.state store.disk).size geometry (present D.state store) procs.old s
-        → (t : State) × IsOn D.state geometry s.now procs.new (base_left result.1) t
+    requires running { (s : State)
+        × IsRunning (D.state store.disk).size geometry (present D.state store) (both procs.old openings.now.0) s }
+    ensures does { (s : State) → IsRunning (D.state store.disk).size geometry (present D.state store) (both procs.old openings.now.0) s
+        → (t : State) × IsOn D.state geometry s.now (both procs.new openings.now.0) (base_left result.1) t
         × Does (D.state store.disk) (D.state (disk_after result.1)) s (Exit pid) (finished result.0) t }
 {
     let (mut txn, known) = store.begin();
-    match exit(&mut txn, geometry, procs, pid) {
+    match exit(&mut txn, geometry, procs, openings, pid) {
         Ok(()) => match keep(txn, known) {
             Ok(store) => (Ok(()), Ok(store)),
             Err(broken) => (Err(Errno::EIO), Err(broken)),
@@ -85,41 +113,25 @@ pub(crate) fn exit_kept<D: Disk>(
     }
 }
 
-/// Puts a process into a directory, and lets its second paths start at another.
-pub(crate) fn enter_kept<D: Disk>(
-    store: CountedStore<D>,
-    geometry: Geometry,
-    procs: &mut Procs,
-    pid: usize,
-    dir_ino: u32,
-    second_ino: u32,
-) -> (Result<(), Errno>, CountedStore<D>)
-    requires running { (s : State) × IsRunning (D.state store.disk).size geometry (present D.state store) procs.old s }
-    ensures does { (s : State) → IsRunning (D.state store.disk).size geometry (present D.state store) procs.old s
-        → (t : State) × IsOn D.state geometry s.now procs.new (Running result.1) t
-        × Does (D.state store.disk) (D.state result.1.disk) s (Enter pid dir_ino second_ino) (finished result.0) t }
-{
-    let (mut txn, known) = store.begin();
-    let done = enter(&mut txn, geometry, procs, pid, dir_ino, second_ino);
-    (done, drop_delta(txn, known))
-}
-
 /// Sets the times of an inode that are given, and answers all three. At `Err` a commit has failed.
 pub(crate) fn stamp_kept<D: Disk>(
     store: CountedStore<D>,
     geometry: Geometry,
     procs: &Procs,
+    openings: &Openings,
     ino: u32,
     atime: Option<u64>,
     mtime: Option<u64>,
     ctime: Option<u64>,
 ) -> (Result<Stamps, Errno>, Result<CountedStore<D>, Broken<D>>)
-    requires running { (s : State) × IsRunning (D.state store.disk).size geometry (present D.state store) procs.now s }
-    ensures does { (s : State) → IsRunning (D.state store.disk).size geometry (present D.state store) procs.now s
-        → (t : State) × IsOn D.state geometry s.now procs.now (base_left result.1) t
+    requires running { (s : State)
+        × IsRunning (D.state store.disk).size geometry (present D.state store) (both procs.now openings.now.0) s }
+    ensures does { (s : State) → IsRunning (D.state store.disk).size geometry (present D.state store) (both procs.now openings.now.0) s
+        → (t : State) × IsOn D.state geometry s.now (both procs.now openings.now.0) (base_left result.1) t
         × Does (D.state store.disk) (D.state (disk_after result.1)) s (Stamp ino atime mtime ctime) (stamped_reply result.0) t }
 {
     let _processes = procs;
+    let _openings = openings;
     times_are_in_range(atime, mtime, ctime);
     let (mut txn, known) = store.begin();
     match stamp(&mut txn, geometry, ino, atime, mtime, ctime) {
@@ -137,16 +149,19 @@ pub(crate) fn count_space<D: Disk>(
     store: CountedStore<D>,
     geometry: Geometry,
     procs: &Procs,
+    openings: &Openings,
 ) -> (Result<(u32, u32), Errno>, CountedStore<D>)
-    requires running { (s : State) × IsRunning (D.state store.disk).size geometry (present D.state store) procs.now s }
-    ensures does { (s : State) → IsRunning (D.state store.disk).size geometry (present D.state store) procs.now s
-        → IsRunning (D.state result.1.disk).size geometry (present D.state result.1) procs.now s
+    requires running { (s : State)
+        × IsRunning (D.state store.disk).size geometry (present D.state store) (both procs.now openings.now.0) s }
+    ensures does { (s : State) → IsRunning (D.state store.disk).size geometry (present D.state store) (both procs.now openings.now.0) s
+        → IsRunning (D.state result.1.disk).size geometry (present D.state result.1) (both procs.now openings.now.0) s
         × Does (D.state store.disk) (D.state result.1.disk) s Statfs (counted result.0) s }
 {
     if let Some(free) = store.free() {
         return (Ok((free.sectors, free.inodes)), store);
     }
     let _processes = procs;
+    let _openings = openings;
     let (mut txn, mut known) = store.begin();
     match count_both(&mut known.counts, &mut txn, geometry) {
         Ok(free) => {

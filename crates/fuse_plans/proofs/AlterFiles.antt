@@ -1,121 +1,118 @@
--- What requests for files change: no more than they say.
-use Rattle.std.specs.Prelude.{◌≡◌, ℕ, ◌+◌, ◌-◌, zero, suc, Bool, true, List, [], ◌∷◌, map, Option, Result, Ok, Err}
-use Rattle.fs_model.specs.Limits.{run_limit}
-use Rattle.fs_model.specs.declared.call.Call.{Call}
-use Rattle.fs_model.specs.declared.call.Call.TheVariants.{Write as WriteCall, Ftruncate}
+-- What requests for files ask, and what they leave.
+--     heeds-open_file        an OPEN asks no more than its flags say
+--     says-create_file        a CREATE adds its name, or takes the bytes of what has it
+--     heeds-read_file, says-write_file, heeds-close_file        by a handle
+use Rattle.std.specs.Prelude.{◌≡◌, ℕ, ◌+◌, zero, suc, Bool, true, false, List, [], ◌∷◌, Option, Result, Ok, Err}
+use Rattle.fs_cred.specs.Credentials.{Credential}
+use Rattle.fs_model.specs.declared.call.Call.TheVariants.{Open as OpenCall}
+use Rattle.fs_model.specs.declared.event.Actor.{Actor}
+use Rattle.fs_model.specs.declared.event.Event.TheVariants.{CallAt}
 use Rattle.fs_model.specs.declared.reply.Reply.{Reply}
 use Rattle.fuse_protocol.specs.declared.operation.Extent.{Extent}
 use Rattle.fuse_protocol.specs.declared.operation.Operation.{Operation}
-use Rattle.fuse_state.specs.Servers.{owner_of, descriptor_of}
+use Rattle.fuse_protocol.specs.declared.reply.Time.{Time}
+use Rattle.fuse_state.specs.Servers.{Server}
 use Rattle.fuse_plans.specs.declared.mode.Mode.{Mode}
 use Rattle.fuse_plans.specs.declared.request.Asked.{Asked}
 use Rattle.fuse_plans.specs.declared.request_error.RequestError.{RequestError}
-use Rattle.fs_model.specs.declared.event.Event.TheVariants.{Call as Calls}
-use Rattle.fuse_plans.specs.Works.{obtain}
-use Rattle.fuse_plans.specs.Flags.{is_trunc}
-use Rattle.fuse_plans.specs.FilePlans.{done, show_open, confirm_shown, confirm_open, open_file, or_opened, open_or_make, look_open, tell_created, create_file, the_open, call_open, seek, seek_open, read_piece, read_pieces, read_file, or_done, write_piece, write_pieces, or_by_moves, write_runs, write_file, close_file, sync_file}
-use Rattle.fuse_plans.specs.Alterations.{resizes, resizes_open, writes_open, adds_name, IsToldIn}
-use Rattle.fuse_plans.proofs.AlterPieces.{pieces, told-where_so, Asks, IsTold, asks-give, asks-fail, asks->>=, asks-attempt, asks-if, asks-when_so, asks-done, asks-obtain, asks-or_closed}
-use Rattle.fuse_plans.proofs.AlterMasks.{asks-new_valid}
-use Rattle.fuse_plans.proofs.AlterNames.{asks-plain_name}
+use Rattle.fuse_plans.specs.Flags.{is_trunc, opening}
+use Rattle.fuse_plans.specs.FilePlans.{touched_if, ask_first, open_object, open_file, or_opened, open_or_make, look_open, tell_created, create_by, create_file, read_file, or_done, write_piece, write_pieces, or_by_moves, write_runs, touch_open_if, touch_open, write_file, close_file}
+use Rattle.fuse_plans.specs.Alterations.{resizes, writes_open, adds_name, IsToldIn}
+use Rattle.fuse_plans.proofs.AlterPieces.{pieces, told-where_so, Manner, may_ask, leaves, saying, Heeds, heeds->>=, heeds-give, heeds-fail, heeds-kept, heeds-keep, heeds-attempt, heeds-if, heeds-done, heeds-needed, heeds-on_told, says-keep, says-obtain, says-inside}
+use Rattle.fuse_plans.proofs.AlterMasks.{heeds-new_valid}
 
 -- ---- to open and create
 
-module _ {o : Option Operation} where
-  pub asks-show_open : (pid fd : ℕ) → Asks o (show_open pid fd)
-  unfolding show_open
-  asks-show_open pid fd = search pieces depth 12
+module _ {m : Manner} where
+  pub heeds-ask_first : (cred : Credential) (n flags : ℕ) → Heeds m (ask_first cred n flags)
+  heeds-ask_first cred n flags = search (pieces, heeds-done) depth 12
 
-  -- what is open is the object, and loses its bytes only where that is told
-  asks-confirm_open : (pid fd n : ℕ) (cuts : Bool) → (cuts ≡ true → IsToldIn o (resizes_open pid fd 0)) → Asks o (confirm_open pid fd n cuts)
-  unfolding confirm_shown confirm_open
-  asks-confirm_open pid fd n cuts told =
-      asks->>= (asks-attempt
-      (asks->>= (asks-show_open pid fd) (λ status.
-      asks->>= (asks-if _ _ _ (asks-give tt) (asks-fail _)) (λ same.
-      asks-when_so cuts (done (obtain (Calls pid (Ftruncate fd 0)))) (λ is. asks-done (asks-obtain _ (told is, tt))))))) (λ confirmed.
-      asks-or_closed pid fd confirmed)
+module _ {m : Manner} (flags : ℕ) (opens : (actor : Actor) (mode : Mode) → may_ask m (CallAt actor (OpenCall [] (opening mode (is_trunc flags)) 0)))
+    (touches : (now : Time) (n : ℕ) (s : Server) → leaves m s (touched_if (is_trunc flags) now n s)) where
+  heeds-open_object : (now : Time) (cred : Credential) (n : ℕ) (mode : Mode) → Heeds m (open_object now cred n flags mode)
+  heeds-open_object now cred n mode =
+      heeds->>= (heeds-ask_first cred n flags) (λ first.
+      heeds->>= (heeds-on_told _ n _ (opens _ _)) (λ reply.
+      heeds->>= (heeds-needed _ _) (λ opened.
+      heeds->>= (heeds-keep _ (touches now n)) (λ kept. heeds-kept _))))
+
+  pub heeds-open_file : (r : Asked) → Heeds m (open_file r flags)
+  heeds-open_file r = search (pieces, heeds-open_object) depth 20
 
 module _ {o : Option Operation} (flags : ℕ) (told : is_trunc flags ≡ true → IsToldIn o (resizes 0)) where
-  asks-or_opened : (pid d : ℕ) (name : List ℕ) (mode : Mode) (r : Result Reply RequestError) → Asks o (or_opened pid d name mode flags r)
-  asks-or_opened pid d name mode (Ok reply) = asks-give _
-  asks-or_opened pid d name mode (Err e) =
-      let empties = told-where_so o (is_trunc flags) (resizes 0) told in
-      search (pieces, empties) depth 12
+  says-or_opened : (cred : Credential) (d : ℕ) (name : List ℕ) (mode : Mode) (r : Result Reply RequestError) → Heeds (saying o) (or_opened cred d name mode flags r)
+  says-or_opened cred d name mode (Ok reply) = heeds-give _
+  says-or_opened cred d name mode (Err e) =
+      heeds-if _ _ _ (heeds->>= (says-inside cred d _ (told-where_so o (is_trunc flags) (resizes 0) told)) (λ reply. heeds-give _)) (heeds-fail e)
 
-  pub asks-create_file : (r : Asked) (name : List ℕ) (mode umask : ℕ) → IsToldIn o (adds_name name) → Asks o (create_file r name flags mode umask)
-  unfolding open_or_make look_open tell_created
-  asks-create_file r name file_mode umask adds = search (pieces, asks-plain_name, asks-new_valid, asks-or_opened, asks-show_open, adds) depth 24
+  says-open_or_make : (cred : Credential) (umask d : ℕ) (name : List ℕ) (mode : Mode) (file_mode : ℕ) → IsToldIn o (adds_name name)
+      → Heeds (saying o) (open_or_make cred umask d name mode flags file_mode)
+  unfolding open_or_make
+  says-open_or_make cred umask d name mode file_mode adds =
+      heeds->>= (heeds-attempt (says-obtain _ (adds, tt))) (says-or_opened cred d name mode)
 
-module _ {o : Option Operation} (flags : ℕ) where
-  -- where what is there loses its bytes once it is open, that is told
-  pub asks-open_file : (r : Asked) → ((pid fd : ℕ) → is_trunc flags ≡ true → IsToldIn o (resizes_open pid fd 0)) → Asks o (open_file r flags)
-  asks-open_file r told_open = search (pieces, confirms) depth 24
-    where
-      confirms : (pid fd n : ℕ) → Asks o (confirm_open pid fd n (is_trunc flags))
-      confirms pid fd n = asks-confirm_open pid fd n (is_trunc flags) (told_open pid fd)
+  says-look_open : (handle n : ℕ) → Heeds (saying o) (look_open handle n)
+  unfolding look_open
+  says-look_open handle n = search pieces depth 16
+
+  says-tell_created : (now : Time) (name_valid d : ℕ) (is_new is_cut : Bool) (opened : ℕ × ℕ) → Heeds (saying o) (tell_created now name_valid d is_new is_cut opened)
+  unfolding tell_created
+  says-tell_created now name_valid d is_new is_cut opened = heeds->>= (says-keep _) (λ kept. heeds->>= (says-look_open opened.0 opened.1) (λ seen. heeds-kept _))
+
+  says-create_by : (now : Time) (name_valid : ℕ) (cred : Credential) (umask d : ℕ) (name : List ℕ) (mode : Mode) (file_mode : ℕ) → IsToldIn o (adds_name name)
+      → Heeds (saying o) (create_by now name_valid cred umask d name mode flags file_mode)
+  says-create_by now name_valid cred umask d name mode file_mode adds =
+      heeds->>= (says-open_or_make cred umask d name mode file_mode adds) (λ opened.
+      heeds->>= (heeds-needed _ _) (λ handle. says-tell_created now name_valid d _ _ handle))
+
+  pub says-create_file : (r : Asked) (name : List ℕ) (file_mode umask : ℕ) → IsToldIn o (adds_name name) → Heeds (saying o) (create_file r name flags file_mode umask)
+  says-create_file r name file_mode umask adds =
+      let by = λ (name_valid : ℕ) (cred : Credential) (mask d : ℕ) (mode : Mode). says-create_by r.now name_valid cred mask d name mode file_mode adds in
+      search (pieces, heeds-new_valid, by) depth 20
 
 -- ---- by a handle
 
-module _ {o : Option Operation} where
-  pub asks-call_open : (handle : ℕ) (call : Call) → IsTold o (owner_of handle) call → Asks o (call_open handle call)
-  unfolding the_open
-  asks-call_open handle call told = search (pieces, told) depth 12
+module _ {m : Manner} where
+  pub heeds-read_file : (extent : Extent) → Heeds m (read_file extent)
+  heeds-read_file extent = search pieces depth 12
 
-  asks-seek_open : (handle offset : ℕ) → Asks o (seek_open handle offset)
-  unfolding the_open seek
-  asks-seek_open handle offset = search pieces depth 12
+  pub heeds-close_file : (handle : ℕ) → Heeds m (close_file handle)
+  heeds-close_file handle = search pieces depth 12
 
-  asks-read_piece : (pid fd most : ℕ) → Asks o (read_piece pid fd most)
-  unfolding read_piece
-  asks-read_piece pid fd most = search pieces depth 12
+  heeds-or_done : (done : ℕ) (wrote : Result ℕ RequestError) → Heeds m (or_done done wrote)
+  heeds-or_done done (Ok count) = heeds-give count
+  heeds-or_done zero (Err e) = heeds-fail e
+  heeds-or_done (suc done) (Err e) = heeds-give 0
 
-  asks-read_pieces : (k pid fd size : ℕ) (bytes : List ℕ) → Asks o (read_pieces k pid fd size bytes)
-  unfolding read_pieces
-  asks-read_pieces zero pid fd size bytes = asks-give bytes
-  asks-read_pieces (suc k) pid fd size bytes =
-      let later = λ (more : List ℕ). asks-read_pieces k pid fd (size - run_limit) more in
-      search (pieces, asks-read_piece, later) depth 12
-
-  pub asks-read_file : (extent : Extent) → Asks o (read_file extent)
-  asks-read_file extent = search (pieces, asks-seek_open, asks-read_pieces) depth 12
-
-  asks-or_done : (done : ℕ) (wrote : Result ℕ RequestError) → Asks o (or_done done wrote)
-  asks-or_done done (Ok count) = asks-give count
-  asks-or_done zero (Err e) = asks-fail e
-  asks-or_done (suc done) (Err e) = asks-give 0
-
-  asks-write_piece : (pid : ℕ) (call : Call) → IsTold o pid call → Asks o (write_piece pid call)
+module _ {o : Option Operation} (handle : ℕ) (told : IsToldIn o (writes_open handle)) where
+  says-write_piece : (offset : ℕ) (piece : List ℕ) → Heeds (saying o) (write_piece handle offset piece)
   unfolding write_piece
-  asks-write_piece pid call told = search (pieces, told) depth 12
+  says-write_piece offset piece = heeds->>= (says-obtain _ (told, tt)) (λ reply. heeds-needed _ _)
 
-  asks-write_pieces : (pid fd count : ℕ) (each : List (List ℕ)) → IsToldIn o (writes_open pid fd) → Asks o (write_pieces pid count (map (WriteCall fd) each))
+  says-write_pieces : (offset done : ℕ) (pieces : List (List ℕ)) → Heeds (saying o) (write_pieces handle offset done pieces)
   unfolding write_pieces
-  asks-write_pieces pid fd count [] told = asks-give count
-  asks-write_pieces pid fd count (bytes ∷ rest) told =
-      let later = λ (more : ℕ). asks-write_pieces pid fd (count + more) rest told in
-      asks->>= (asks-attempt (asks-write_piece pid (WriteCall fd bytes) (told, tt))) (λ wrote.
-      asks->>= (asks-or_done count wrote) (λ more. asks-if _ _ _ (asks-give _) (later more)))
+  says-write_pieces offset done [] = heeds-give done
+  says-write_pieces offset done (piece ∷ rest) =
+      let later = λ (more : ℕ). says-write_pieces offset (done + more) rest in
+      heeds->>= (heeds-attempt (says-write_piece _ piece)) (λ wrote. heeds->>= (heeds-or_done done wrote) (λ more. heeds-if _ _ _ (heeds-give _) (later more)))
 
-  asks-or_by_moves : (pid fd : ℕ) (moves : List (List ℕ)) (wrote : Result ℕ RequestError) → IsToldIn o (writes_open pid fd)
-      → Asks o (or_by_moves pid (map (WriteCall fd) moves) wrote)
-  asks-or_by_moves pid fd moves (Ok count) told = asks-give count
-  asks-or_by_moves pid fd moves (Err e) told = asks-if _ _ _ (asks-write_pieces pid fd 0 moves told) (asks-fail e)
+  says-or_by_moves : (offset : ℕ) (bytes : List ℕ) (wrote : Result ℕ RequestError) → Heeds (saying o) (or_by_moves handle offset bytes wrote)
+  says-or_by_moves offset bytes (Ok count) = heeds-give count
+  says-or_by_moves offset bytes (Err e) = heeds-if _ _ _ (says-write_pieces offset 0 _) (heeds-fail e)
 
-  asks-write_runs : (pid fd : ℕ) (runs moves : List (List ℕ)) → IsToldIn o (writes_open pid fd)
-      → Asks o (write_runs pid (map (WriteCall fd) runs) (map (WriteCall fd) moves))
+  says-write_runs : (offset : ℕ) (bytes : List ℕ) → Heeds (saying o) (write_runs handle offset bytes)
   unfolding write_runs
-  asks-write_runs pid fd runs moves told = asks->>= (asks-attempt (asks-write_pieces pid fd 0 runs told)) (λ wrote. asks-or_by_moves pid fd moves wrote told)
+  says-write_runs offset bytes = heeds->>= (heeds-attempt (says-write_pieces offset 0 _)) (says-or_by_moves offset bytes)
 
-  pub asks-write_file : (r : Asked) (handle offset : ℕ) (bytes : List ℕ) → IsToldIn o (writes_open (owner_of handle) (descriptor_of handle))
-      → Asks o (write_file r handle offset bytes)
-  asks-write_file r handle offset bytes told =
-      let writes = λ (runs moves : List (List ℕ)). asks-write_runs (owner_of handle) (descriptor_of handle) runs moves told in
-      search (pieces, asks-seek_open, writes) depth 12
+  says-touch_open_if : (keeps : Bool) (now : Time) → Heeds (saying o) (touch_open_if keeps now handle)
+  says-touch_open_if true now = heeds-give tt
+  says-touch_open_if false now = search (pieces, says-keep) depth 12
 
-  pub asks-close_file : (handle : ℕ) → Asks o (close_file handle)
-  asks-close_file handle = search (pieces, asks-call_open) depth 12
+  says-touch_open : (now : Time) → Heeds (saying o) (touch_open now handle)
+  unfolding touch_open
+  says-touch_open now = heeds->>= (heeds-kept _) (λ keeps. says-touch_open_if keeps now)
 
-  pub asks-sync_file : (handle : ℕ) → Asks o (sync_file handle)
-  unfolding the_open
-  asks-sync_file handle = search pieces depth 12
+  pub says-write_file : (now : Time) (offset : ℕ) (bytes : List ℕ) → Heeds (saying o) (write_file now handle offset bytes)
+  says-write_file now offset bytes =
+      heeds->>= (heeds-if _ _ _ (heeds-give tt) (heeds-fail _)) (λ within.
+      heeds->>= (says-write_runs offset bytes) (λ count. heeds->>= (heeds-attempt (says-touch_open now)) (λ touched. heeds-give _)))

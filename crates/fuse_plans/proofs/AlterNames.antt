@@ -1,5 +1,10 @@
--- What requests for names change: no more than they say.
-use Rattle.std.specs.Prelude.{ℕ, Bool, List, Option, Result, Ok, Err}
+-- What requests for names ask, and what they leave: look-ups change nothing, and the others no more than is told.
+--     heeds-find_inside, heeds-find_name        look-ups
+--     heeds-directory_for, heeds-number_named, heeds-may_move, ..        what is looked for first
+--     says-make_link, says-make_directory, says-make_file        what is made
+--     says-remove, says-move_name, says-add_link        names that go, move and come
+use Rattle.std.specs.Prelude.{ℕ, Bool, true, false, List, Option, Result, Ok, Err}
+use Rattle.fs_cred.specs.Credentials.{Credential}
 use Rattle.fs_model.specs.declared.call.Call.{Call}
 use Rattle.fs_model.specs.declared.reply.Reply.{Reply}
 use Rattle.fs_model.specs.declared.reply.Status.{Status}
@@ -7,59 +12,114 @@ use Rattle.fuse_protocol.specs.declared.operation.Operation.{Operation}
 use Rattle.fuse_protocol.specs.declared.reply.Time.{Time}
 use Rattle.fuse_plans.specs.declared.request.Asked.{Asked}
 use Rattle.fuse_plans.specs.declared.request_error.RequestError.{RequestError}
-use Rattle.fuse_plans.specs.NamePlans.{plain_name, or_absent, found_or_absent, find_name, made, open_and_close, directory_and_caller, make_link, make_directory, make_file, remove, none_there, move_name, link_by_dentry, add_link}
-use Rattle.fuse_plans.specs.Alterations.{adds_name, moves_name, IsToldIn}
-use Rattle.fuse_plans.proofs.AlterPieces.{pieces, Asks, IsTold, asks-give, asks-fail}
-use Rattle.fuse_plans.proofs.AlterMasks.{asks-new_valid}
-use Rattle.fuse_plans.proofs.Leaving.{by-or_absent}
+use Rattle.fuse_plans.specs.declared.request_error.RequestError.TheVariants.{Lacks}
+use Rattle.fuse_plans.specs.declared.request_error.OtherErrno.TheVariants.{ESTALE}
+use Rattle.fuse_plans.specs.NamePlans.{directory_for, tell_named, or_absent, found_or_absent, find_inside, find_name, tell_made, make_by, make_link, make_directory, make_closed, make_file, number_named_if, number_named, remove, none_there, nothing_to_replace, may_move, move_name, link_as, add_link}
+use Rattle.fuse_plans.specs.Alterations.{adds_name, moves_name, alterations_by, IsToldIn, AreTold}
+use Rattle.fuse_plans.proofs.AlterPieces.{pieces, Manner, saying, Heeds, heeds->>=, heeds-give, heeds-fail, heeds-needed, heeds-ask, says-keep, says-obtain, says-inside}
+use Rattle.fuse_plans.proofs.AlterMasks.{heeds-new_valid}
+
+-- ---- look-ups, and what is looked for first
+
+module _ {m : Manner} where
+  heeds-or_absent : (known : Result ℕ RequestError) → Heeds m (or_absent known)
+  heeds-or_absent (Ok n) = heeds-give n
+  heeds-or_absent (Err (Lacks ESTALE)) = heeds-fail _
+  heeds-or_absent (Err _) = heeds-fail _
+
+  pub heeds-found_or_absent : (nobody : Bool) (seen : Result Status RequestError) → Heeds m (found_or_absent nobody seen)
+  heeds-found_or_absent nobody (Ok status) = search pieces depth 12
+  heeds-found_or_absent nobody (Err e) = search pieces depth 12
+
+  pub heeds-find_inside : (nobody : Bool) (cred : Credential) (d : ℕ) (name : List ℕ) → Heeds m (find_inside nobody cred d name)
+  heeds-find_inside nobody cred d name = search (pieces, heeds-found_or_absent) depth 12
+
+  pub heeds-find_name : (r : Asked) (name : List ℕ) → Heeds m (find_name r name)
+  heeds-find_name r name = search (pieces, heeds-or_absent, heeds-found_or_absent) depth 20
+
+  heeds-number_named_if : (keeps : Bool) (d : ℕ) (name : List ℕ) → Heeds m (number_named_if keeps d name)
+  heeds-number_named_if true d name = heeds-give _
+  heeds-number_named_if false d name = search pieces depth 12
+
+  -- which object has the name
+  pub heeds-number_named : (d : ℕ) (name : List ℕ) → Heeds m (number_named d name)
+  unfolding number_named
+  heeds-number_named d name = search (pieces, heeds-number_named_if) depth 12
+
+  pub heeds-directory_for : (node : ℕ) (name : List ℕ) → Heeds m (directory_for node name)
+  heeds-directory_for node name = search pieces depth 12
+
+  pub heeds-may_move : (name new_name : List ℕ) (flags : ℕ) → Heeds m (may_move name new_name flags)
+  heeds-may_move name new_name flags = search pieces depth 12
+
+  heeds-none_there : (there : Result Reply RequestError) → Heeds m (none_there there)
+  heeds-none_there (Ok reply) = heeds-fail _
+  heeds-none_there (Err e) = search pieces
+
+  pub heeds-nothing_to_replace : (flags : ℕ) (cred : Credential) (d : ℕ) (name : List ℕ) → Heeds m (nothing_to_replace flags cred d name)
+  heeds-nothing_to_replace flags cred d name = search (pieces, heeds-none_there) depth 12
+
+  heeds-tell_named : (name_valid n : ℕ) → Heeds m (tell_named name_valid n)
+  heeds-tell_named name_valid n = search pieces depth 12
+
+-- ---- what changes as it is told
 
 module _ {o : Option Operation} where
-  pub asks-plain_name : (name : List ℕ) → Asks o (plain_name name)
-  asks-plain_name name = search pieces
+  says-tell_made : (now : Time) (name_valid d n : ℕ) → Heeds (saying o) (tell_made now name_valid d n)
+  unfolding tell_made
+  says-tell_made now name_valid d n = heeds->>= (says-keep _) (λ kept. heeds-tell_named name_valid n)
 
-  asks-directory_and_caller : (r : Asked) (name : List ℕ) → Asks o (directory_and_caller r name)
-  asks-directory_and_caller r name = search pieces depth 12
+  says-make_by : (r : Asked) (d umask : ℕ) (call : Call) → AreTold o (alterations_by call) → Heeds (saying o) (make_by r d umask call)
+  says-make_by r d umask call told =
+      heeds->>= (heeds-new_valid d) (λ name_valid.
+      heeds->>= (heeds-needed _ r.cred) (λ cred.
+      heeds->>= (says-obtain _ told) (λ reply.
+      heeds->>= (heeds-needed _ _) (λ n. says-tell_made r.now name_valid d n))))
 
-  asks-made : (now : Time) (name_valid d : ℕ) (name : List ℕ) → Asks o (made now name_valid d name)
-  unfolding made
-  asks-made now name_valid d name = search pieces depth 12
+  pub says-make_link : (r : Asked) (name target : List ℕ) → IsToldIn o (adds_name name) → Heeds (saying o) (make_link r name target)
+  says-make_link r name target told = heeds->>= (heeds-directory_for r.node name) (λ d. says-make_by r d _ _ (told, tt))
 
-  asks-open_and_close : (pid d : ℕ) (call : Call) → IsTold o pid call → Asks o (open_and_close pid d call)
-  asks-open_and_close pid d call told = search (pieces, told) depth 12
+  pub says-make_directory : (r : Asked) (name : List ℕ) (mode umask : ℕ) → IsToldIn o (adds_name name) → Heeds (saying o) (make_directory r name mode umask)
+  says-make_directory r name mode umask told = heeds->>= (heeds-directory_for r.node name) (λ d. says-make_by r d _ _ (told, tt))
 
-  asks-or_absent : (known : Result ℕ RequestError) → Asks o (or_absent known)
-  asks-or_absent known = by-or_absent (λ w. Asks o w) asks-give asks-fail known
+  says-make_closed : (r : Asked) (d umask : ℕ) (call : Call) → AreTold o (alterations_by call) → Heeds (saying o) (make_closed r d umask call)
+  says-make_closed r d umask call told =
+      heeds->>= (heeds-new_valid d) (λ name_valid.
+      heeds->>= (heeds-needed _ r.cred) (λ cred.
+      heeds->>= (says-obtain _ told) (λ reply.
+      heeds->>= (heeds-needed _ _) (λ opened.
+      heeds->>= (heeds-ask _ tt) (λ closed. says-tell_made r.now name_valid d _)))))
 
-  pub asks-found_or_absent : (nobody : Bool) (d : ℕ) (name : List ℕ) (seen : Result Status RequestError) → Asks o (found_or_absent nobody d name seen)
-  asks-found_or_absent nobody d name (Ok status) = search pieces depth 12
-  asks-found_or_absent nobody d name (Err e) = search pieces depth 12
+  pub says-make_file : (r : Asked) (name : List ℕ) (mode umask : ℕ) → IsToldIn o (adds_name name) → Heeds (saying o) (make_file r name mode umask)
+  says-make_file r name mode umask told =
+      heeds->>= (search pieces) (λ file. heeds->>= (heeds-directory_for r.node name) (λ d. says-make_closed r d _ _ (told, tt)))
 
-  pub asks-find_name : (r : Asked) (name : List ℕ) → Asks o (find_name r name)
-  asks-find_name r name = search (pieces, asks-or_absent, asks-found_or_absent) depth 20
+  pub says-remove : (r : Asked) (call : List ℕ → Call) (name : List ℕ) → AreTold o (alterations_by (call name)) → Heeds (saying o) (remove r call name)
+  says-remove r call name told =
+      heeds->>= (heeds-directory_for r.node name) (λ d.
+      heeds->>= (heeds-needed _ r.cred) (λ cred.
+      heeds->>= (heeds-number_named d name) (λ gone.
+      heeds->>= (says-inside cred d _ told) (λ reply.
+      heeds->>= (says-keep _) (λ kept. heeds-give _)))))
 
-  pub asks-make_link : (r : Asked) (name target : List ℕ) → IsToldIn o (adds_name name) → Asks o (make_link r name target)
-  asks-make_link r name target told = search (pieces, asks-plain_name, asks-new_valid, asks-made, told) depth 20
+  pub says-move_name : (r : Asked) (name : List ℕ) (new_node : ℕ) (new_name : List ℕ) (flags : ℕ) → IsToldIn o (moves_name name new_name)
+      → Heeds (saying o) (move_name r name new_node new_name flags)
+  says-move_name r name new_node new_name flags told =
+      heeds->>= (heeds-may_move name new_name flags) (λ may.
+      heeds->>= (search pieces) (λ d.
+      heeds->>= (search pieces) (λ new.
+      heeds->>= (heeds-needed _ r.cred) (λ cred.
+      heeds->>= (heeds-nothing_to_replace flags cred new new_name) (λ none.
+      heeds->>= (heeds-number_named d name) (λ object.
+      heeds->>= (heeds-number_named new new_name) (λ replaced.
+      heeds->>= (says-obtain _ (told, tt)) (λ reply.
+      heeds->>= (says-keep _) (λ kept. heeds-give _)))))))))
 
-  pub asks-make_directory : (r : Asked) (name : List ℕ) (mode umask : ℕ) → IsToldIn o (adds_name name) → Asks o (make_directory r name mode umask)
-  asks-make_directory r name mode umask told = search (pieces, asks-plain_name, asks-new_valid, asks-made, told) depth 20
+  says-link_as : (r : Asked) (n d : ℕ) (name : List ℕ) → IsToldIn o (adds_name name) → Heeds (saying o) (link_as r n d name)
+  says-link_as r n d name told =
+      heeds->>= (heeds-needed _ r.cred) (λ cred.
+      heeds->>= (says-obtain _ (told, tt)) (λ reply.
+      heeds->>= (says-keep _) (λ kept. heeds-tell_named 0 n)))
 
-  pub asks-make_file : (r : Asked) (name : List ℕ) (mode umask : ℕ) → IsToldIn o (adds_name name) → Asks o (make_file r name mode umask)
-  asks-make_file r name mode umask told = search (pieces, asks-plain_name, asks-new_valid, asks-open_and_close, asks-made, told) depth 24
-
-  pub asks-remove : (r : Asked) (call : List ℕ → Call) (name : List ℕ) → ((pid : ℕ) → IsTold o pid (call name)) → Asks o (remove r call name)
-  asks-remove r call name told = search (pieces, asks-directory_and_caller, told) depth 12
-
-  pub asks-none_there : (there : Result Reply RequestError) → Asks o (none_there there)
-  asks-none_there (Ok reply) = search pieces
-  asks-none_there (Err e) = search pieces
-
-  pub asks-move_name : (r : Asked) (name : List ℕ) (new_node : ℕ) (new_name : List ℕ) (flags : ℕ) → IsToldIn o (moves_name name new_name)
-      → Asks o (move_name r name new_node new_name flags)
-  asks-move_name r name new_node new_name flags told = search (pieces, asks-none_there, told) depth 20
-
-  asks-link_by_dentry : (pid n d : ℕ) (name : List ℕ) → IsToldIn o (adds_name name) → Asks o (link_by_dentry pid n d name)
-  unfolding link_by_dentry
-  asks-link_by_dentry pid n d name told = search (pieces, told) depth 12
-
-  pub asks-add_link : (r : Asked) (old_node : ℕ) (name : List ℕ) → IsToldIn o (adds_name name) → Asks o (add_link r old_node name)
-  asks-add_link r old_node name told = search (pieces, asks-link_by_dentry, told) depth 20
+  pub says-add_link : (r : Asked) (old_node : ℕ) (name : List ℕ) → IsToldIn o (adds_name name) → Heeds (saying o) (add_link r old_node name)
+  says-add_link r old_node name told = heeds->>= (heeds-directory_for r.node name) (λ d. heeds->>= (search pieces) (λ n. says-link_as r n d name told))

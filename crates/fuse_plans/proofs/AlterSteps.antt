@@ -1,34 +1,42 @@
 -- What the machine changes by an event is no more than is said of it.
+--     steps_change_what_is_said        the law
+--     openings_are_told        to what opens something it replies with that, or refuses it
 use Rattle.std.specs.Prelude.{◌≡◌, ℕ, Bool, true, false, not, ◌&&◌, ◌||◌, List, [], ◌∷◌, ◌++◌, Option, None, Some, is_some, if◌then◌else◌}
 use Rattle.std.proofs.Common.{refl, sym, ap, subst}
 use Rattle.std.specs.Ordering.{nat_cmp}
 use Rattle.posix_acl.specs.AccessList.{AccessList}
 use Rattle.fs_cred.specs.Credentials.{Credential}
+use Rattle.fs_cred.specs.declared.refusal.Refusal.{Refusal}
 use Rattle.fs_layout.specs.Maps.{get}
 use Rattle.fs_model.specs.declared.call.AclType.TheVariants.{Access as AccessAcl, Default}
 use Rattle.fs_model.specs.declared.call.Call.{Call}
 use Rattle.fs_model.specs.declared.call.Call.TheVariants.{Open, Read, Write, Lseek, Close, Fstat, Stat, Lstat, Access, Truncate, Ftruncate, Chmod, Chown, GetAcl, SetAcl, Readdir, Mkdir, Rmdir, Link as LinkCall, Symlink, Readlink, Unlink, Rename, Chdir, Umask}
 use Rattle.fs_model.specs.declared.call.Flags.{Flags}
 use Rattle.fs_model.specs.declared.event.Event.{Event}
-use Rattle.fs_model.specs.declared.event.Event.TheVariants.{Spawn, Exit, Call as Calls, CallAt, Enter, Stamp, Clock, Fsync, Sync, Statfs, Arm, Restart}
+use Rattle.fs_model.specs.declared.event.Event.TheVariants.{Spawn, Exit, Call as Calls, CallAt, CallBy, Stamp, Clock, Fsync, Sync, Statfs, Arm, Restart}
+use Rattle.fs_model.specs.declared.event.HandleCall.{HandleCall}
+use Rattle.fs_model.specs.declared.event.HandleCall.TheVariants as by_handle
 use Rattle.fs_model.specs.declared.reply.Reply.{Reply}
+use Rattle.fs_model.specs.declared.reply.Reply.TheVariants.{Refused}
 use Rattle.fs_model.specs.AttributeCalls.{with_mode, owned, with_set_acl}
 use Rattle.fs_model.specs.declared.reply.Stamps.{Stamps}
 use Rattle.fs_model.specs.declared.touch.Touch.TheVariants.{Modified}
 use Rattle.fs_model.specs.Births.{the_node}
 use Rattle.fs_model.specs.Nodes.{Node, Body, File, Dir, Link, with_bytes, stamped}
+use Rattle.fs_model.specs.HandleCalls.{doer, handle_call_row}
 use Rattle.fs_model.specs.OpenCall.{open_change, open_demands, open_found_demands, open_new_demands}
-use Rattle.fs_model.specs.Processes.{Process}
+use Rattle.fs_model.specs.Processes.{Process, users}
 use Rattle.fs_model.specs.RenameCall.{is_same}
 use Rattle.fs_model.specs.Rows.{row_of}
 use Rattle.fs_layout.proofs.FirstEntries.{left}
 use Rattle.fs_model.specs.Scenes.{Scene, is_found, found_ino, node_found, body_found}
 use Rattle.fs_model.specs.States.{State}
-use Rattle.fs_model.specs.Steps.{Choice, with_stamps, scene_of, actor_scene, late_refusal, demand_of, other_refusal, after_call, after_enter, after, Answers, is_halted, refuses_early, refuses_late, acts, lacks_memory, read_fails, write_fails}
+use Rattle.fs_model.specs.Steps.{Choice, with_stamps, scene_of, actor_scene, late_refusal, demand_of, other_refusal, after_call, after, Answers, is_halted, refuses_early, refuses_late, acts, lacks_memory, read_fails, write_fails}
 use Rattle.fs_model.specs.TreeChanges.{Same, Rewrite, Make, MoveName, changed, swept, touches, touched}
 use Rattle.fs_model.proofs.StepsDemands.{AreMet, demands_met, unrefused}
 use Rattle.fs_model.proofs.StepsOfActors.{actor_demands}
-use Rattle.fuse_plans.specs.Alterations.{Alteration, resizes, adds_name, sets_owner, sets_group, sets_times, where_so, alterations_by, alterations_in}
+use Rattle.fuse_plans.specs.Alterations.{Alteration, resizes, adds_name, sets_owner, sets_group, sets_times, where_so, alterations_by, alterations_by_handle, alterations_in}
+use Rattle.fuse_plans.specs.Laws.{IsReplyTo, OpeningsAreTold}
 use Rattle.fuse_plans.specs.AlteredTrees.{says_one, KeepsUnsaid, AltersOnly, LeavesUnsaid, stays, alters, StepsChangeWhatIsSaid}
 
 -- what is said may change
@@ -131,60 +139,67 @@ opens f mode path s number met = choose (is_found s.first) (f.trunc && f.write) 
 
 -- ---- each call
 
-says : (c : Scene) (pid : ℕ) (call : Call) (number : ℕ) → AreMet ((row_of call).demands c)
-    → AltersOnly (alterations_by pid call) c.state.tree ((row_of call).effect c number).change
+says : (c : Scene) (call : Call) (number : ℕ) → AreMet ((row_of call).demands c)
+    → AltersOnly (alterations_by call) c.state.tree ((row_of call).effect c number).change
 unfolding row_of
-says c pid (Open path flags mode) number met = opens flags mode path c number met
-says c pid (Read fd len) number met = tt
-says c pid (Write fd []) number met = tt
-says c pid (Write fd (b ∷ bytes)) number met = keeps_bytes _ _ _ _ _ _ refl
-says c pid (Lseek fd whence by) number met = tt
-says c pid (Close fd) number met = tt
-says c pid (Fstat fd) number met = tt
-says c pid (Stat path) number met = tt
-says c pid (Lstat path) number met = tt
-says c pid (Access path want) number met = tt
-says c pid (Truncate path size) number met = keeps_bytes _ _ _ _ _ _ refl
-says c pid (Ftruncate fd size) number met = keeps_bytes _ _ _ _ _ _ refl
-says c pid (Chmod path mode) number met = keeps_mode _ _ _ _ c.process.cred mode _ refl
-says c pid (Chown path owner group) number met = keeps_owners owner group _
-says c pid (GetAcl path which) number met = tt
-says c pid (SetAcl path AccessAcl acl) number met = keeps_access _ _ _ _ acl _ refl
-says c pid (SetAcl path Default acl) number met = keeps_default _ _ _ _ acl _ refl
-says c pid (Readdir fd) number met = tt
-says c pid (Mkdir path mode) number met = refl
-says c pid (Rmdir path) number met = refl
-says c pid (LinkCall old new) number met = refl
-says c pid (Symlink target path) number met = refl
-says c pid (Readlink path) number met = tt
-says c pid (Unlink path) number met = refl
-says c pid (Rename old new) number met = moves (is_same c) _ _ _ _
+says c (Open path flags mode) number met = opens flags mode path c number met
+says c (Read fd len) number met = tt
+says c (Write fd []) number met = tt
+says c (Write fd (b ∷ bytes)) number met = keeps_bytes _ _ _ _ _ _ refl
+says c (Lseek fd whence by) number met = tt
+says c (Close fd) number met = tt
+says c (Fstat fd) number met = tt
+says c (Stat path) number met = tt
+says c (Lstat path) number met = tt
+says c (Access path want) number met = tt
+says c (Truncate path size) number met = keeps_bytes _ _ _ _ _ _ refl
+says c (Ftruncate fd size) number met = keeps_bytes _ _ _ _ _ _ refl
+says c (Chmod path mode) number met = keeps_mode _ _ _ _ c.process.cred mode _ refl
+says c (Chown path owner group) number met = keeps_owners owner group _
+says c (GetAcl path which) number met = tt
+says c (SetAcl path AccessAcl acl) number met = keeps_access _ _ _ _ acl _ refl
+says c (SetAcl path Default acl) number met = keeps_default _ _ _ _ acl _ refl
+says c (Readdir fd) number met = tt
+says c (Mkdir path mode) number met = refl
+says c (Rmdir path) number met = refl
+says c (LinkCall old new) number met = refl
+says c (Symlink target path) number met = refl
+says c (Readlink path) number met = tt
+says c (Unlink path) number met = refl
+says c (Rename old new) number met = moves (is_same c) _ _ _ _
   where
     moves : (same : Bool) (directory : ℕ) (name : List ℕ) (to_directory : ℕ) (to_name : List ℕ)
-        → AltersOnly (alterations_by pid (Rename old new)) c.state.tree (if same then Same else MoveName directory name to_directory to_name)
+        → AltersOnly (alterations_by (Rename old new)) c.state.tree (if same then Same else MoveName directory name to_directory to_name)
     moves true directory name to_directory to_name = tt
     moves false directory name to_directory to_name = refl
-says c pid (Chdir path) number met = tt
-says c pid (Umask mask) number met = tt
+says c (Chdir path) number met = tt
+says c (Umask mask) number met = tt
+
+-- by a handle
+says_by : (c : Scene) (handle : ℕ) (call : HandleCall) (number : ℕ) → AltersOnly (alterations_by_handle handle call) c.state.tree ((handle_call_row call).effect c number).change
+unfolding handle_call_row
+says_by c handle (by_handle.Read offset len) number = tt
+says_by c handle (by_handle.Write offset []) number = tt
+says_by c handle (by_handle.Write offset (b ∷ bytes)) number = keeps_bytes _ _ _ _ _ _ refl
+says_by c handle (by_handle.Resize size) number = keeps_bytes _ _ _ _ _ _ refl
+says_by c handle by_handle.Show number = tt
+says_by c handle by_handle.List number = tt
+says_by c handle by_handle.Close number = tt
 
 -- ---- each event
 
 says_call : (s : State) (pid : ℕ) (call : Call) (number : ℕ) (p : Option Process) → demand_of (λ q. late_refusal s q (row_of call)) p ≡ None
-    → AltersOnly (alterations_by pid call) s.tree (after_call s pid (row_of call) number p).change
+    → AltersOnly (alterations_by call) s.tree (after_call s pid (row_of call) number p).change
 says_call s pid call number None none = tt
-says_call s pid call number (Some p) none = says (scene_of s p (row_of call)) pid call number (demands_met s p (row_of call) none)
-
-says_enter : (s : State) (pid directory second : ℕ) (p : Option Process) → AltersOnly [] s.tree (after_enter s pid directory second p).change
-says_enter s pid directory second None = tt
-says_enter s pid directory second (Some p) = tt
+says_call s pid call number (Some p) none = says (scene_of s p (row_of call)) call number (demands_met s p (row_of call) none)
 
 says_event : (s : State) (e : Event) (choice : Choice) → other_refusal s e ≡ None → AltersOnly (alterations_in e) s.tree (after s e choice).change
 unfolding other_refusal after
 says_event s (Spawn cred) choice none = tt
 says_event s (Exit pid) choice none = tt
 says_event s (Calls pid call) choice none = says_call s pid call choice.ino (get nat_cmp s.processes pid) none
-says_event s (CallAt actor call) choice none = says (actor_scene s actor (row_of call)) 0 call choice.ino (actor_demands s actor call (row_of call) none)
-says_event s (Enter pid directory second) choice none = says_enter s pid directory second (get nat_cmp s.processes pid)
+says_event s (CallAt actor call) choice none = says (actor_scene s actor (row_of call)) call choice.ino (actor_demands s actor call (row_of call) none)
+says_event s (CallBy handle call) choice none = says_by (scene_of s (doer s.openings handle call) (handle_call_row call)) handle call choice.ino
 says_event s (Stamp n atime mtime ctime) choice none = keeps_times n s.room.keeps_times atime mtime ctime (the_node s.tree n)
 says_event s (Clock now) choice none = tt
 says_event s (Fsync pid fd) choice none = tt
@@ -200,10 +215,35 @@ answered_so old new e reply (refuses_late halted r early is said same) = stays (
 answered_so old new e reply (acts choice does said is) =
     let change = (after old e choice).change in
     alters change (says_event old e choice does.late)
-    (subst (λ s. s.tree ≡ touched old.now (touches old.room old.tree change) (swept (changed old.tree change) s.processes)) (sym is) refl)
+    (subst (λ s. s.tree ≡ touched old.now (touches old.room old.tree change) (swept (changed old.tree change) (users s.processes s.openings))) (sym is) refl)
 answered_so old new e reply (lacks_memory halted early asks said same) = stays (ap (λ s. s.tree) same)
 answered_so old new e reply (read_fails halted early said same) = stays (ap (λ s. s.tree) same)
-answered_so old new e reply (write_fails choice does said processes halted same) = stays (ap (λ s. s.tree) same)
+answered_so old new e reply (write_fails choice does said processes openings halted same) = stays (ap (λ s. s.tree) same)
 
 pub steps_change_what_is_said : StepsChangeWhatIsSaid
 steps_change_what_is_said old new e reply step = answered_so old new e reply step.1
+
+-- ---- what is replied to what opens
+
+refused_so : (e : Event) (r : Refusal) → IsReplyTo e (Refused r)
+refused_so (CallAt actor (Open path flags mode)) r = tt
+refused_so (CallAt actor _) r = tt
+refused_so _ r = tt
+
+replied_so : (s : State) (e : Event) (choice : Choice) → IsReplyTo e (after s e choice).reply
+unfolding after
+replied_so s (CallAt actor (Open path flags mode)) choice = tt
+replied_so s (CallAt actor _) choice = tt
+replied_so s _ choice = tt
+
+answers_so : (old new : State) (e : Event) (reply : Reply) → Answers old e reply new → IsReplyTo e reply
+answers_so old new e reply (is_halted halted said same) = subst (IsReplyTo e) (sym said) (refused_so e _)
+answers_so old new e reply (refuses_early halted r is said same) = subst (IsReplyTo e) (sym said) (refused_so e _)
+answers_so old new e reply (refuses_late halted r early is said same) = subst (IsReplyTo e) (sym said) (refused_so e _)
+answers_so old new e reply (acts choice does said is) = subst (IsReplyTo e) (sym said) (replied_so old e choice)
+answers_so old new e reply (lacks_memory halted early asks said same) = subst (IsReplyTo e) (sym said) (refused_so e _)
+answers_so old new e reply (read_fails halted early said same) = subst (IsReplyTo e) (sym said) (refused_so e _)
+answers_so old new e reply (write_fails choice does said processes openings halted same) = subst (IsReplyTo e) (sym said) (refused_so e _)
+
+pub openings_are_told : OpeningsAreTold
+openings_are_told old new e reply step = answers_so old new e reply step.1

@@ -1,18 +1,25 @@
--- How pieces of plans behave, and those that are made of them.
-use Rattle.std.specs.Prelude.{◌≡◌, ℕ, Bool, true, false, Option, None, Some, Result, Ok, Err}
-use Rattle.std.proofs.Common.{sym, ap, subst, ◌∙◌}
-use Rattle.fs_model.specs.declared.event.Event.TheVariants.{Stamp, Clock}
+-- How pieces of plans behave, and those that are made of them. What is remembered are the events so far with their replies.
+--     keeps-followed_by, keeps-weaker, keeps->>=        plans one after another
+--     Extends        what was asked before stays asked
+--     begins        a server fits when the request begins
+--     Still        nodes lead where they did when the request began
+--     Fits, DoesTo, Does, Lasts        what a piece keeps to; of the last one no more than shares are asked
+--     does-give, does-keep, then->>=, with->>=, does->>=, does-attempt, lasts->>=, ..        the pieces
+use Rattle.std.specs.Prelude.{◌≡◌, ℕ, suc, Bool, true, false, [], ◌∷◌, Option, None, Some, Result, Ok, Err, IsTrue, if◌then◌else◌}
+use Rattle.std.specs.List.{Contains}
+use Rattle.std.proofs.Common.{refl, sym, ap, subst, ◌∙◌, arith}
+use Rattle.fs_model.specs.declared.event.Event.{Event}
 use Rattle.fs_model.specs.declared.reply.Reply.{Reply}
-use Rattle.fs_model.specs.declared.reply.Reply.TheVariants.{Done, Pid, Fd, Data, Wrote, At, Target, Mask, Shown, Granted, Acl, Names, Space, Stamped, Refused}
+use Rattle.fuse_protocol.specs.declared.reply.Time.{Time}
+use Rattle.fuse_state.specs.Servers.{Server, number_of_node, WithinShares}
+use Rattle.fuse_state.proofs.Holders.{Holding, holding_of, same_within}
 use Rattle.fuse_plans.specs.Plans.{Plan, Finish, Ask, followed_by, Restraint, KeepsTo}
 use Rattle.fuse_plans.specs.declared.request_error.RequestError.{RequestError}
-use Rattle.fuse_protocol.specs.declared.reply.Time.{Time}
-use Rattle.fuse_state.specs.Stamps.{stamp_of}
-use Rattle.fuse_state.specs.Servers.{Server, number_of_node, dentries_in, dentries_of, WithinShares}
-use Rattle.fuse_state.proofs.Holders.{holding_of, same_within}
-use Rattle.fuse_plans.specs.Works.{Work, give, fail, kept, keep, goes_on, ◌>>=◌, attempt, of_result, needed, ask, unless_refused}
-use Rattle.fuse_plans.specs.Conduct.{Known, Rights, MayStamp, asks, conduct, Fits, IsHome}
-use Rattle.fuse_plans.specs.Times.{tell_time_if, tell_time, told_stamps_if, told_stamps}
+use Rattle.fuse_plans.specs.Works.{Work, give, fail, kept, keep, goes_on, ◌>>=◌, attempt, of_result, needed}
+use Rattle.fuse_plans.specs.FilePlans.{when, done}
+use Rattle.fuse_plans.specs.Acts.{AskedBefore}
+use Rattle.fuse_plans.specs.KeepingDue.{clock_of}
+use Rattle.fuse_plans.specs.Conduct.{Rights, conduct}
 
 -- ---- plans
 
@@ -33,17 +40,41 @@ keeps-weaker rule E F (Ask e next) m first weaker = (
 )
 
 -- one piece after another, where what the first leaves is enough for the second
-pub keeps->>= : {X Y : Type 0} (rights : Rights) (E : Known → Result X RequestError × Server → Type 0) (F : Known → Result Y RequestError × Server → Type 0)
-    (w : Work X) (f : X → Work Y) (known : Known) (s : Server)
-    → KeepsTo (conduct rights) E known (w s)
-    → ((n : Known) (x : X) (t : Server) → E n (Ok x, t) → KeepsTo (conduct rights) F n (f x t))
-    → ((n : Known) (e : RequestError) (t : Server) → E n (Err e, t) → F n (Err e, t)) → KeepsTo (conduct rights) F known ((w >>= f) s)
+pub keeps->>= : {M X Y : Type 0} (rule : Restraint M) (E : M → Result X RequestError × Server → Type 0) (F : M → Result Y RequestError × Server → Type 0)
+    (w : Work X) (f : X → Work Y) (m : M) (s : Server)
+    → KeepsTo rule E m (w s)
+    → ((n : M) (x : X) (t : Server) → E n (Ok x, t) → KeepsTo rule F n (f x t))
+    → ((n : M) (e : RequestError) (t : Server) → E n (Err e, t) → F n (Err e, t)) → KeepsTo rule F m ((w >>= f) s)
 unfolding ◌>>=◌
-keeps->>= {X} {Y} rights E F w f known s first ok err = keeps-followed_by (conduct rights) E F (w s) (goes_on f) known first after
+keeps->>= {M} {X} {Y} rule E F w f m s first ok err = keeps-followed_by rule E F (w s) (goes_on f) m first after
   where
-    after : (n : Known) (r : Result X RequestError × Server) → E n r → KeepsTo (conduct rights) F n (goes_on f r)
+    after : (n : M) (r : Result X RequestError × Server) → E n r → KeepsTo rule F n (goes_on f r)
     after n (Ok x, t) left = ok n x t left
     after n (Err e, t) left = err n e t left
+
+-- ---- what was asked before
+
+-- what was asked stays asked
+pub record Extends (old new : AskedBefore) : Type 0 where
+  pub has : (e : Event) (reply : Reply) → Contains old (e, reply) → Contains new (e, reply)
+
+pub has-last : (past : AskedBefore) (x : Event × Reply) → Contains (x ∷ past) x
+has-last past x = (0, omega arith, refl)
+
+has-later : (past : AskedBefore) (x y : Event × Reply) → Contains past x → Contains (y ∷ past) x
+has-later past x y (k, lt, is) = (suc k, omega (arith, lt), is)
+
+pub extends-itself : (past : AskedBefore) → Extends past past
+extends-itself past = record { has = λ e reply was. was }
+
+pub extends-more : {old new : AskedBefore} (x : Event × Reply) → Extends old new → Extends old (x ∷ new)
+extends-more {old} {new} x more = record { has = λ e reply was. has-later new (e, reply) x (more.has e reply was) }
+
+pub extends-both : {first second third : AskedBefore} → Extends first second → Extends second third → Extends first third
+extends-both more again = record { has = λ e reply was. again.has e reply (more.has e reply was) }
+
+pub extends-nothing : (past : AskedBefore) → Extends [] past
+extends-nothing past = record { has = λ e reply was. absurd (omega (arith, was.1)) }
 
 -- ---- what is known of what the server keeps
 
@@ -51,281 +82,238 @@ keeps->>= {X} {Y} rights E F w f known s first ok err = keeps-followed_by (condu
 abbrev pub Any : Server → Type 0
 Any s = Unit {0}
 
--- nodes and names are as they were when the request began
+-- each node leads where it did when the request began
 pub record Still (rights : Rights) (s : Server) : Type 0 where
-  pub kinds : s.kinds ≡ rights.subject.start.kinds
   pub generations : s.generations ≡ rights.subject.start.generations
-  pub names : s.names ≡ rights.subject.start.names
 
--- the server's processes stay, and what is held
-abbrev pub SameOwn : (Server → Server) → Type 0
-SameOwn f = (s : Server) → (holding_of (f s) ≡ holding_of s) × ((f s).server_process ≡ s.server_process)
-
--- and so do nodes and names
-abbrev pub SameAll : (Server → Server) → Type 0
-SameAll f =
-    (s : Server)
-    → (holding_of (f s) ≡ holding_of s) × ((f s).server_process ≡ s.server_process) × ((f s).kinds ≡ s.kinds) × ((f s).generations ≡ s.generations) × ((f s).names ≡ s.names)
-
-pub still-as : {rights : Rights} {s t : Server} → t.kinds ≡ s.kinds → t.generations ≡ s.generations → t.names ≡ s.names → Still rights s → Still rights t
-still-as kinds generations names still = record {
-  kinds = kinds ∙ still.kinds;
-  generations = generations ∙ still.generations;
-  names = names ∙ still.names;
-}
-
-pub still-kept : {rights : Rights} (f : Server → Server) → SameAll f → (s : Server) → Still rights s → Still rights (f s)
-still-kept f same s still = still-as (same s).2 (same s).3 (same s).4 still
-
--- a node leads where it did
 pub still-number : {rights : Rights} {s : Server} → Still rights s → (node : ℕ) → number_of_node s node ≡ number_of_node rights.subject.start node
-still-number {rights} {s} still node =
-    let t = rights.subject.start in
-    ap (λ k. number_of_node (record s { kinds = k }) node) still.kinds
-    ∙ ap (λ g. number_of_node (record s { kinds = t.kinds; generations = g }) node) still.generations
+still-number {rights} {s} still node = ap (λ g. number_of_node (record s { generations = g }) node) still.generations
 
--- and an object has the dentries that it had
-pub still-dentries : {rights : Rights} {s : Server} → Still rights s → (n : ℕ) → dentries_of s n ≡ dentries_of rights.subject.start n
-still-dentries {rights} {s} still n = ap (λ l. dentries_in l n) still.names
+-- what is held of open directories, and from when on is counted for what is due
+abbrev Kept : Type 0
+Kept = Holding × (Time × ℕ)
+
+abbrev pub kept_of : Server → Kept
+kept_of s = (holding_of s, clock_of s)
+
+-- that stays
+abbrev pub SameHeld : (Server → Server) → Type 0
+SameHeld f = (s : Server) → kept_of (f s) ≡ kept_of s
+
+-- and so do generations
+abbrev pub SameAll : (Server → Server) → Type 0
+SameAll f = (s : Server) → (kept_of (f s) ≡ kept_of s) × ((f s).generations ≡ s.generations)
 
 -- ---- pieces
 
-abbrev pub Left : Rights → (Server → Type 0) → {X : Type 0} → Known → Result X RequestError × Server → Type 0
-Left rights P known r = Fits rights P known r.1
+-- Of a server as it is after what was asked, which was `known` at first: none holds more than it may, if that was so at the beginning. It counts
+-- from when it did then.
+pub record Fits (rights : Rights) (P : Server → Type 0) (known past : AskedBefore) (s : Server) : Type 0 where
+  pub since : Extends known past
+  pub shares : WithinShares rights.subject.start → WithinShares s
+  pub clock : clock_of s ≡ clock_of rights.subject.start
+  pub holds : P s
 
--- Where P holds of what the server knows, the work behaves, and P holds then.
-pub record Does (rights : Rights) (P : Server → Type 0) {X : Type 0} (w : Work X) : Type 0 where
-  pub goes : (known : Known) (s : Server) → Fits rights P known s → KeepsTo (conduct rights) (Left rights P) known (w s)
+pub begins : (rights : Rights) (s : Server) → rights.subject.start ≡ s → (past : AskedBefore) → Fits rights (Still rights) [] past s
+begins rights s start past = record {
+  since = extends-nothing past;
+  shares = λ within. subst WithinShares start within;
+  clock = ap clock_of (sym start);
+  holds = record { generations = ap (λ t. t.generations) (sym start) };
+}
+
+abbrev pub LeftTo : Rights → (Server → Type 0) → AskedBefore → {X : Type 0} → (AskedBefore → X → Type 0) → AskedBefore → Result X RequestError × Server → Type 0
+LeftTo rights P known F past (Ok x, s) = Fits rights P known past s × F past x
+LeftTo rights P known F past (Err e, s) = Fits rights P known past s
+
+-- Where P holds of what the server keeps, the work behaves, and P holds then; and F of its value, after what was asked.
+pub record DoesTo (rights : Rights) (P : Server → Type 0) (known : AskedBefore) {X : Type 0} (F : AskedBefore → X → Type 0) (w : Work X) : Type 0 where
+  pub goes : (past : AskedBefore) (s : Server) → Fits rights P known past s → KeepsTo (conduct rights) (LeftTo rights P known F) past (w s)
+
+-- nothing is known of the value
+abbrev pub Does : Rights → (Server → Type 0) → AskedBefore → {X : Type 0} → Work X → Type 0
+Does rights P known w = DoesTo rights P known (λ past x. Unit {0}) w
+
+abbrev pub Left : Rights → {X : Type 0} → AskedBefore → X × Server → Type 0
+Left rights past r = (WithinShares rights.subject.start → WithinShares r.1) × (clock_of r.1 ≡ clock_of rights.subject.start)
 
 -- Where P holds, the work behaves; it is the last.
-pub record Lasts (rights : Rights) (P : Server → Type 0) {X : Type 0} (w : Work X) : Type 0 where
-  pub goes : (known : Known) (s : Server) → Fits rights P known s → KeepsTo (conduct rights) (Left rights Any) known (w s)
+pub record Lasts (rights : Rights) (P : Server → Type 0) (known : AskedBefore) {X : Type 0} (w : Work X) : Type 0 where
+  pub goes : (past : AskedBefore) (s : Server) → Fits rights P known past s → KeepsTo (conduct rights) (Left rights) past (w s)
 
-abbrev pub LeftTo : Rights → {X : Type 0} → (X → Server → Type 0) → (X → Type 0) → Known → Result X RequestError × Server → Type 0
-LeftTo rights Q F known (Ok x, s) = Fits rights (Q x) known s × F x
-LeftTo rights Q F known (Err e, s) = Fits rights Any known s
+-- what is known of a value where the work didn't fail
+abbrev pub OkTo : {X : Type 0} → (AskedBefore → X → Type 0) → AskedBefore → Result X RequestError → Type 0
+OkTo F past (Ok x) = F past x
+OkTo F past (Err e) = Unit {0}
 
--- Where nodes and names are as they were, the work behaves; then Q holds of its value and of what the server knows, and F of its
--- value.
-pub record DoesTo (rights : Rights) {X : Type 0} (Q : X → Server → Type 0) (F : X → Type 0) (w : Work X) : Type 0 where
-  pub goes : (known : Known) (s : Server) → Fits rights (Still rights) known s → KeepsTo (conduct rights) (LeftTo rights Q F) known (w s)
+module _ {rights : Rights} {P : Server → Type 0} {known : AskedBefore} where
+  fits-later : {now past : AskedBefore} {s : Server} → Extends known now → Fits rights P now past s → Fits rights P known past s
+  fits-later more fits = record { since = extends-both more fits.since; shares = fits.shares; clock = fits.clock; holds = fits.holds }
 
--- work keeps to its conduct, where what the server knows stays
-abbrev pub Gives : (rights : Rights) {X : Type 0} → (X → Type 0) → Work X → Type 0
-Gives rights F w = DoesTo rights (λ x. Still rights) F w
+  fits-now : {past : AskedBefore} {s : Server} → Fits rights P known past s → Fits rights P past past s
+  fits-now {past} fits = record { since = extends-itself past; shares = fits.shares; clock = fits.clock; holds = fits.holds }
 
-pub fits-any : {rights : Rights} {P : Server → Type 0} {known : Known} {s : Server} → Fits rights P known s → Fits rights Any known s
-fits-any fits = record { home = fits.home; processes = fits.processes; server_process = fits.server_process; shares = fits.shares; holds = tt }
+  -- ---- without events
 
-module _ {rights : Rights} {P : Server → Type 0} where
-  pub does-give : {X : Type 0} (x : X) → Does rights P (give x)
+  pub gives : {X : Type 0} {F : AskedBefore → X → Type 0} (x : X) → ((past : AskedBefore) → Extends known past → F past x) → DoesTo rights P known F (give x)
   unfolding give
-  does-give x = record { goes = λ known s fits. fits }
+  gives x is = record { goes = λ past s fits. (fits, is past fits.since) }
 
-  pub does-fail : {X : Type 0} (e : RequestError) → Does rights P {X = X} (fail e)
+  pub does-give : {X : Type 0} (x : X) → Does rights P known (give x)
+  does-give x = gives x (λ past more. tt)
+
+  pub does-fail : {X : Type 0} {F : AskedBefore → X → Type 0} (e : RequestError) → DoesTo rights P known F (fail e)
   unfolding fail
-  does-fail e = record { goes = λ known s fits. fits }
+  does-fail e = record { goes = λ past s fits. fits }
 
-  pub does-kept : {X : Type 0} (f : Server → X) → Does rights P (kept f)
+  pub does-kept : {X : Type 0} (f : Server → X) → Does rights P known (kept f)
   unfolding kept
-  does-kept f = record { goes = λ known s fits. fits }
+  does-kept f = record { goes = λ past s fits. (fits, tt) }
 
-  pub does-keep : (f : Server → Server) → SameOwn f → ((s : Server) → P s → P (f s)) → Does rights P (keep f)
+  -- where none holds more than it may
+  pub does-keep_within : (f : Server → Server) → ((s : Server) → WithinShares s → WithinShares (f s)) → ((s : Server) → clock_of (f s) ≡ clock_of s)
+      → ((s : Server) → P s → P (f s)) → Does rights P known (keep f)
   unfolding keep
-  does-keep f same stays = record {
-    goes = λ known s fits. record {
-      home = fits.home;
-      processes = fits.processes ∙ sym (ap (λ k. k.0) (same s).0);
-      server_process = (same s).1 ∙ fits.server_process;
-      shares = λ within. same_within s (f s) (same s).0 (fits.shares within);
-      holds = stays s fits.holds;
-    };
+  does-keep_within f within counts stays = record {
+    goes = λ past s fits. (
+      record { since = fits.since; shares = λ start. within s (fits.shares start); clock = counts s ∙ fits.clock; holds = stays s fits.holds },
+      tt,
+    );
   }
 
-  -- where processes stay, and none holds more than it may
-  pub does-keep_within : (f : Server → Server) → ((s : Server) → ((f s).processes ≡ s.processes) × ((f s).server_process ≡ s.server_process))
-      → ((s : Server) → P s → (WithinShares rights.subject.start → WithinShares s) → WithinShares rights.subject.start → WithinShares (f s))
-      → ((s : Server) → P s → P (f s)) → Does rights P (keep f)
-  unfolding keep
-  does-keep_within f same within stays = record {
-    goes = λ known s fits. record {
-      home = fits.home;
-      processes = fits.processes ∙ sym (same s).0;
-      server_process = (same s).1 ∙ fits.server_process;
-      shares = within s fits.holds fits.shares;
-      holds = stays s fits.holds;
-    };
+  pub does-of_result : {X : Type 0} (r : Result X RequestError) → Does rights P known (of_result r)
+  does-of_result (Ok x) = does-give x
+  does-of_result (Err e) = does-fail e
+
+  pub gives-of_result : {X : Type 0} {F : X → Type 0} (r : Result X RequestError) → OkTo (λ past. F) known r → DoesTo rights P known (λ past. F) (of_result r)
+  gives-of_result (Ok x) is = gives x (λ past more. is)
+  gives-of_result (Err e) is = does-fail e
+
+  pub does-needed : {X : Type 0} (e : RequestError) (o : Option X) → DoesTo rights P known (λ past x. o ≡ Some x) (needed e o)
+  does-needed e None = does-fail e
+  does-needed e (Some x) = gives x (λ past more. refl)
+
+  pub does-if : {X : Type 0} {F : AskedBefore → X → Type 0} (b : Bool) (w v : Work X) → DoesTo rights P known F w → DoesTo rights P known F v → DoesTo rights P known F (if b then w else v)
+  does-if true w v first second = first
+  does-if false w v first second = second
+
+  -- the work may know that the condition is met
+  pub does-when : (b : Bool) (w : Work (Unit {0})) → (IsTrue b → Does rights P known w) → Does rights P known (when b w)
+  does-when true w first = first refl
+  does-when false w first = does-give tt
+
+  -- ---- one after another
+
+  pub does-weaker : {X : Type 0} {F G : AskedBefore → X → Type 0} {w : Work X} → DoesTo rights P known F w → ((past : AskedBefore) (x : X) → F past x → G past x)
+      → DoesTo rights P known G w
+  does-weaker {X} {F} {G} {w} first says = record {
+    goes = λ past s fits. keeps-weaker (conduct rights) (LeftTo rights P known F) (LeftTo rights P known G) (w s) past (first.goes past s fits) weaker;
+  }
+    where
+      weaker : (n : AskedBefore) (r : Result X RequestError × Server) → LeftTo rights P known F n r → LeftTo rights P known G n r
+      weaker n (Ok x, t) left = (left.0, says n x left.1)
+      weaker n (Err e, t) left = left
+
+  pub forget : {X : Type 0} {F : AskedBefore → X → Type 0} {w : Work X} → DoesTo rights P known F w → Does rights P known w
+  forget first = does-weaker first (λ past x is. tt)
+
+  pub then->>= : {X Y : Type 0} {F : AskedBefore → X → Type 0} {G : AskedBefore → Y → Type 0} {w : Work X} {f : X → Work Y}
+      → DoesTo rights P known F w → ((x : X) (now : AskedBefore) → Extends known now → F now x → DoesTo rights P now G (f x)) → DoesTo rights P known G (w >>= f)
+  then->>= {X} {Y} {F} {G} {w} {f} first rest = record {
+    goes = λ past s fits.
+        keeps->>= (conduct rights) (LeftTo rights P known F) (LeftTo rights P known G) w f past s (first.goes past s fits) after (λ n e t left. left);
+  }
+    where
+      back : (now : AskedBefore) → Extends known now → (n : AskedBefore) (r : Result Y RequestError × Server) → LeftTo rights P now G n r → LeftTo rights P known G n r
+      back now more n (Ok y, t) left = (fits-later more left.0, left.1)
+      back now more n (Err e, t) left = fits-later more left
+
+      after : (n : AskedBefore) (x : X) (t : Server) → LeftTo rights P known F n (Ok x, t) → KeepsTo (conduct rights) (LeftTo rights P known G) n (f x t)
+      after n x t left =
+          keeps-weaker (conduct rights) (LeftTo rights P n G) (LeftTo rights P known G) (f x t) n ((rest x n left.0.since left.1).goes n t (fits-now left.0)) (back n left.0.since)
+
+  -- where what is known of the value doesn't speak of what was asked
+  pub with->>= : {X Y : Type 0} {F : X → Type 0} {G : AskedBefore → Y → Type 0} {w : Work X} {f : X → Work Y}
+      → DoesTo rights P known (λ past. F) w → ((x : X) → F x → DoesTo rights P known G (f x)) → DoesTo rights P known G (w >>= f)
+  with->>= {X} {Y} {F} {G} {w} {f} first rest = record {
+    goes = λ past s fits.
+        keeps->>= (conduct rights) (LeftTo rights P known (λ past. F)) (LeftTo rights P known G) w f past s (first.goes past s fits) (λ n x t left. (rest x left.1).goes n t left.0) (λ n e t left. left);
   }
 
-  pub does->>= : {X Y : Type 0} {w : Work X} {f : X → Work Y} → Does rights P w → ((x : X) → Does rights P (f x)) → Does rights P (w >>= f)
-  does->>= {X} {Y} {w} {f} first rest = record {
-    goes = λ known s fits.
-        keeps->>= rights (Left rights P) (Left rights P) w f known s (first.goes known s fits) (λ n x t left. (rest x).goes n t left) (λ n e t left. left);
+  pub does->>= : {X Y : Type 0} {F : AskedBefore → X → Type 0} {G : AskedBefore → Y → Type 0} {w : Work X} {f : X → Work Y}
+      → DoesTo rights P known F w → ((x : X) → DoesTo rights P known G (f x)) → DoesTo rights P known G (w >>= f)
+  does->>= {X} {Y} {F} {G} {w} {f} first rest = record {
+    goes = λ past s fits.
+        keeps->>= (conduct rights) (LeftTo rights P known F) (LeftTo rights P known G) w f past s (first.goes past s fits) (λ n x t left. (rest x).goes n t left.0) (λ n e t left. left);
   }
 
-  pub does-attempt : {X : Type 0} {w : Work X} → Does rights P w → Does rights P (attempt w)
+  pub does-done : {X : Type 0} {F : AskedBefore → X → Type 0} {w : Work X} → DoesTo rights P known F w → Does rights P known (done w)
+  does-done first = does->>= first (λ x. does-give tt)
+
+  pub does-attempt : {X : Type 0} {F : AskedBefore → X → Type 0} {w : Work X} → DoesTo rights P known F w → DoesTo rights P known (OkTo F) (attempt w)
   unfolding attempt
-  does-attempt {X} {w} first = record {
-    goes = λ known s fits.
-        keeps-followed_by (conduct rights) (Left rights P) (Left rights P) (w s) (λ r. Finish (Ok r.0, r.1)) known (first.goes known s fits) (λ n r left. left);
+  does-attempt {X} {F} {w} first = record {
+    goes = λ past s fits.
+        keeps-followed_by (conduct rights) (LeftTo rights P known F) (LeftTo rights P known (OkTo F)) (w s) (λ r. Finish (Ok r.0, r.1)) past (first.goes past s fits) told;
   }
+    where
+      told : (n : AskedBefore) (r : Result X RequestError × Server) → LeftTo rights P known F n r → LeftTo rights P known (OkTo F) n (Ok r.0, r.1)
+      told n (Ok x, t) left = left
+      told n (Err e, t) left = (left, tt)
 
   -- ---- the last pieces
 
-  pub does-lasts : {X : Type 0} {w : Work X} → Does rights P w → Lasts rights P w
-  does-lasts {X} {w} does = record {
-    goes = λ known s fits. keeps-weaker (conduct rights) (Left rights P) (Left rights Any) (w s) known (does.goes known s fits) (λ n r left. fits-any left);
+  pub does-lasts : {X : Type 0} {F : AskedBefore → X → Type 0} {w : Work X} → DoesTo rights P known F w → Lasts rights P known w
+  does-lasts {X} {F} {w} first = record {
+    goes = λ past s fits. keeps-weaker (conduct rights) (LeftTo rights P known F) (Left rights) (w s) past (first.goes past s fits) weaker;
+  }
+    where
+      weaker : (n : AskedBefore) (r : Result X RequestError × Server) → LeftTo rights P known F n r → Left rights n r
+      weaker n (Ok x, t) left = (left.0.shares, left.0.clock)
+      weaker n (Err e, t) left = (left.shares, left.clock)
+
+  pub lasts-then : {X Y : Type 0} {F : AskedBefore → X → Type 0} {w : Work X} {f : X → Work Y}
+      → DoesTo rights P known F w → ((x : X) (now : AskedBefore) → Extends known now → F now x → Lasts rights P now (f x)) → Lasts rights P known (w >>= f)
+  lasts-then {X} {Y} {F} {w} {f} first rest = record {
+    goes = λ past s fits.
+        keeps->>= (conduct rights) (LeftTo rights P known F) (Left rights) w f past s (first.goes past s fits)
+        (λ n x t left. (rest x n left.0.since left.1).goes n t (fits-now left.0)) (λ n e t left. (left.shares, left.clock));
   }
 
-  pub lasts->>= : {X Y : Type 0} {w : Work X} {f : X → Work Y} → Does rights P w → ((x : X) → Lasts rights P (f x)) → Lasts rights P (w >>= f)
-  lasts->>= {X} {Y} {w} {f} first rest = record {
-    goes = λ known s fits.
-        keeps->>= rights (Left rights P) (Left rights Any) w f known s (first.goes known s fits) (λ n x t left. (rest x).goes n t left) (λ n e t left. fits-any left);
+  pub lasts-with : {X Y : Type 0} {F : X → Type 0} {w : Work X} {f : X → Work Y}
+      → DoesTo rights P known (λ past. F) w → ((x : X) → F x → Lasts rights P known (f x)) → Lasts rights P known (w >>= f)
+  lasts-with {X} {Y} {F} {w} {f} first rest = record {
+    goes = λ past s fits.
+        keeps->>= (conduct rights) (LeftTo rights P known (λ past. F)) (Left rights) w f past s (first.goes past s fits)
+        (λ n x t left. (rest x left.1).goes n t left.0) (λ n e t left. (left.shares, left.clock));
   }
 
-  -- where nothing needs to be known any more
-  pub ends->>= : {X Y : Type 0} {w : Work X} {f : X → Work Y} → Lasts rights P w → ((x : X) → Does rights Any (f x)) → Lasts rights P (w >>= f)
-  ends->>= {X} {Y} {w} {f} first rest = record {
-    goes = λ known s fits.
-        keeps->>= rights (Left rights Any) (Left rights Any) w f known s (first.goes known s fits) (λ n x t left. (rest x).goes n t left) (λ n e t left. left);
+  pub lasts->>= : {X Y : Type 0} {F : AskedBefore → X → Type 0} {w : Work X} {f : X → Work Y}
+      → DoesTo rights P known F w → ((x : X) → Lasts rights P known (f x)) → Lasts rights P known (w >>= f)
+  lasts->>= {X} {Y} {F} {w} {f} first rest = record {
+    goes = λ past s fits.
+        keeps->>= (conduct rights) (LeftTo rights P known F) (Left rights) w f past s (first.goes past s fits)
+        (λ n x t left. (rest x).goes n t left.0) (λ n e t left. (left.shares, left.clock));
   }
-
-  pub lasts-any : {X : Type 0} {w : Work X} → Does rights Any w → Lasts rights P w
-  lasts-any does = record { goes = λ known s fits. does.goes known s (fits-any fits) }
 
   -- the server keeps something else from now on
-  pub keep-lasts : {X : Type 0} {Q : Server → Type 0} (f : Server → Server) {w : Work X} → SameOwn f → ((s : Server) → P s → Q (f s)) → Lasts rights Q w
-      → Lasts rights P (keep f >>= (λ _. w))
+  pub keep-lasts : {X : Type 0} {Q : Server → Type 0} (f : Server → Server) {w : Work X} → SameHeld f → ((s : Server) → P s → Q (f s)) → Lasts rights Q known w
+      → Lasts rights P known (keep f >>= (λ _. w))
   unfolding keep ◌>>=◌
-  keep-lasts {X} {Q} f {w} same after rest = record {
-    goes = λ known s fits.
-        rest.goes known (f s)
+  keep-lasts f same after rest = record {
+    goes = λ past s fits.
+        rest.goes past (f s)
         (record {
-          home = fits.home;
-          processes = fits.processes ∙ sym (ap (λ k. k.0) (same s).0);
-          server_process = (same s).1 ∙ fits.server_process;
-          shares = λ within. same_within s (f s) (same s).0 (fits.shares within);
+          since = fits.since;
+          shares = λ start. same_within s (f s) (ap (λ k. k.0) (same s)) (fits.shares start);
+          clock = ap (λ k. k.1) (same s) ∙ fits.clock;
           holds = after s fits.holds;
         });
   }
 
-  -- ---- values
-
-  pub does-of_result : {X : Type 0} (r : Result X RequestError) → Does rights P (of_result r)
-  does-of_result (Ok x) = does-give x
-  does-of_result (Err e) = does-fail e
-
-  pub does-needed : {X : Type 0} (e : RequestError) (o : Option X) → Does rights P (needed e o)
-  does-needed e None = does-fail e
-  does-needed e (Some x) = does-give x
-
-  pub does-unless_refused : (reply : Reply) → Does rights P (unless_refused reply)
-  does-unless_refused (Refused r) = does-fail _
-  does-unless_refused Done = does-give _
-  does-unless_refused (Pid k) = does-give _
-  does-unless_refused (Fd k) = does-give _
-  does-unless_refused (Data b) = does-give _
-  does-unless_refused (Wrote k) = does-give _
-  does-unless_refused (At k) = does-give _
-  does-unless_refused (Target t) = does-give _
-  does-unless_refused (Mask k) = does-give _
-  does-unless_refused (Shown t) = does-give _
-  does-unless_refused (Granted t) = does-give _
-  does-unless_refused (Acl t) = does-give _
-  does-unless_refused (Names t) = does-give _
-  does-unless_refused (Space j k) = does-give _
-  does-unless_refused (Stamped t) = does-give _
-
-  -- ---- times
-
-  pub does-stamp : (n : ℕ) (atime mtime ctime : Option ℕ) → MayStamp rights.subject n atime mtime ctime
-      → Does rights P (ask (Stamp n atime mtime ctime))
-  unfolding ask
-  does-stamp n atime mtime ctime may = record { goes = λ known s fits. ((subst IsHome (sym fits.home) tt, may), λ reply. fits) }
-
-  does-if_kept : {X : Type 0} (f : Bool → Work X) (g : Server → Bool) → Does rights P (f true) → Does rights P (f false) → Does rights P (kept g >>= f)
-  does-if_kept f g where_so where_not = does->>= (does-kept g) choose
-    where
-      choose : (b : Bool) → Does rights P (f b)
-      choose true = where_so
-      choose false = where_not
-
-  -- the times of each object may be asked for
-  pub does-told_stamps : (n : ℕ) → Does rights P (told_stamps n)
-  unfolding told_stamps
-  does-told_stamps n =
-      does-if_kept _ _ (does->>= (does-stamp n None None None asks) (λ reply. does->>= (does-needed _ _) (λ stamps. does-give _))) (does-give None)
-
-  does-clock : (now : ℕ) → Does rights P (ask (Clock now))
-  unfolding ask
-  does-clock now = record { goes = λ known s fits. (subst IsHome (sym fits.home) tt, λ reply. fits) }
-
-  pub does-tell_time : (now : Time) → Does rights P (tell_time now)
-  unfolding tell_time
-  does-tell_time now = does-if_kept _ _ (does->>= (does-clock (stamp_of now)) (λ reply. does-give tt)) (does-give tt)
-
--- ---- what is known of a value
-
-module _ {rights : Rights} where
-  pub then-lasts : {X Y : Type 0} {Q : X → Server → Type 0} {F : X → Type 0} {w : Work X} {f : X → Work Y}
-      → DoesTo rights Q F w → ((x : X) → F x → Lasts rights (Q x) (f x)) → Lasts rights (Still rights) (w >>= f)
-  then-lasts {X} {Y} {Q} {F} {w} {f} first rest = record {
-    goes = λ known s fits.
-        keeps->>= rights (LeftTo rights Q F) (Left rights Any) w f known s (first.goes known s fits) (λ n x t left. (rest x left.1).goes n t left.0)
-        (λ n e t left. left);
-  }
-
-  pub then-does : {X Y : Type 0} {Q : X → Server → Type 0} {F : X → Type 0} {w : Work X} {f : X → Work Y}
-      → DoesTo rights Q F w → ((x : X) → F x → Does rights (Q x) (f x)) → Lasts rights (Still rights) (w >>= f)
-  then-does first rest = then-lasts first (λ x is. does-lasts (rest x is))
-
-  pub then-does_to : {X Y : Type 0} {F : X → Type 0} {R : Y → Server → Type 0} {G : Y → Type 0} {w : Work X} {f : X → Work Y}
-      → Gives rights F w → ((x : X) → F x → DoesTo rights R G (f x)) → DoesTo rights R G (w >>= f)
-  then-does_to {X} {Y} {F} {R} {G} {w} {f} first rest = record {
-    goes = λ known s fits.
-        keeps->>= rights (LeftTo rights (λ x. Still rights) F) (LeftTo rights R G) w f known s (first.goes known s fits)
-        (λ n x t left. (rest x left.1).goes n t left.0) (λ n e t left. left);
-  }
-
-  pub does-does_to : {X Y : Type 0} {R : Y → Server → Type 0} {G : Y → Type 0} {w : Work X} {f : X → Work Y}
-      → Does rights (Still rights) w → ((x : X) → DoesTo rights R G (f x)) → DoesTo rights R G (w >>= f)
-  does-does_to {X} {Y} {R} {G} {w} {f} first rest = record {
-    goes = λ known s fits.
-        keeps->>= rights (Left rights (Still rights)) (LeftTo rights R G) w f known s (first.goes known s fits) (λ n x t left. (rest x).goes n t left)
-        (λ n e t left. fits-any left);
-  }
-
-  pub gives-give : {X : Type 0} {F : X → Type 0} (x : X) → F x → Gives rights F (give x)
-  unfolding give
-  gives-give x is = record { goes = λ known s fits. (fits, is) }
-
-  pub gives-fail : {X : Type 0} {Q : X → Server → Type 0} {F : X → Type 0} (e : RequestError) → DoesTo rights Q F (fail e)
-  unfolding fail
-  gives-fail e = record { goes = λ known s fits. fits-any fits }
-
-  -- where it is told whether the first failed
-  pub attempt-does_to : {X Y : Type 0} {F : X → Type 0} {R : Y → Server → Type 0} {G : Y → Type 0} {w : Work X} (f : Result X RequestError → Work Y)
-      → Gives rights F w → ((x : X) → F x → DoesTo rights R G (f (Ok x)))
-      → ((e : RequestError) (known : Known) (s : Server) → Fits rights Any known s → KeepsTo (conduct rights) (LeftTo rights R G) known (f (Err e) s))
-      → DoesTo rights R G (attempt w >>= f)
-  unfolding attempt ◌>>=◌
-  attempt-does_to {X} {Y} {F} {R} {G} {w} f first ok err = record {
-    goes = λ known s fits.
-        keeps-followed_by (conduct rights) told (LeftTo rights R G) (followed_by (w s) (λ r. Finish (Ok r.0, r.1))) (goes_on f) known
-        (keeps-followed_by (conduct rights) (LeftTo rights (λ x. Still rights) F) told (w s) (λ r. Finish (Ok r.0, r.1)) known (first.goes known s fits) tells)
-        goes;
-  }
-    where
-      told : Known → Result (Result X RequestError) RequestError × Server → Type 0
-      told n (Ok (Ok x), t) = Fits rights (Still rights) n t × F x
-      told n (Ok (Err e), t) = Fits rights Any n t
-      told n (Err e, t) = ⊥
-
-      tells : (n : Known) (r : Result X RequestError × Server) → LeftTo rights (λ x. Still rights) F n r → told n (Ok r.0, r.1)
-      tells n (Ok x, t) left = left
-      tells n (Err e, t) left = left
-
-      goes : (n : Known) (r : Result (Result X RequestError) RequestError × Server) → told n r → KeepsTo (conduct rights) (LeftTo rights R G) n (goes_on f r)
-      goes n (Ok (Ok x), t) left = (ok x left.1).goes n t left.0
-      goes n (Ok (Err e), t) left = err e n t left
-      goes n (Err e, t) left = elim left [ ]
+module _ {rights : Rights} {known : AskedBefore} where
+  -- where nodes lead where they did
+  pub does-keep : (f : Server → Server) → SameAll f → Does rights (Still rights) known (keep f)
+  does-keep f same =
+      does-keep_within f (λ s within. same_within s (f s) (ap (λ k. k.0) (same s).0) within) (λ s. ap (λ k. k.1) (same s).0)
+      (λ s still. record { generations = (same s).1 ∙ still.generations })

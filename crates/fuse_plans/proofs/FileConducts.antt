@@ -1,203 +1,215 @@
--- How requests for files behave.
-use Rattle.std.specs.Prelude.{◌≡◌, ℕ, ◌+◌, ◌-◌, ◌==◌, suc, zero, Bool, true, false, List, [], ◌∷◌, map, length, Option, None, Some, Result, Ok, Err, IsTrue}
-use Rattle.std.proofs.Common.{refl, sym, subst}
-use Rattle.std.specs.Cmp.{nat_eq_equiv}
-use Rattle.fs_model.specs.declared.call.Call.{Call}
-use Rattle.fs_model.specs.declared.call.Call.TheVariants.{Read as ReadCall, Write as WriteCall}
-use Rattle.fs_model.specs.declared.reply.FileType.{FileType}
+-- How requests for files behave: OPEN, CREATE, READ, WRITE and RELEASE.
+--     does-open_file, lasts-create_file        to open and create
+--     by-given, IsKept, by-kept        what is asked by the handle that is given
+--     does-read_file, does-write_file, does-close_file        by a handle
+use Rattle.std.specs.Prelude.{◌≡◌, ℕ, ◌+◌, suc, zero, Bool, true, false, not, ◌&&◌, List, [], ◌∷◌, None, Some, Result, Ok, Err, IsTrue, if◌then◌else◌}
+use Rattle.std.proofs.Common.{refl, ◌∙◌}
+use Rattle.posix_acl.specs.Entries.{perms_of}
+use Rattle.fs_cred.specs.Credentials.{Credential}
+use Rattle.fs_model.specs.declared.call.Call.TheVariants.{Open as OpenCall, Access}
+use Rattle.fs_model.specs.declared.event.Event.{Event}
+use Rattle.fs_model.specs.declared.event.Event.TheVariants.{CallAt, CallBy}
+use Rattle.fs_model.specs.declared.event.HandleCall.{HandleCall}
 use Rattle.fs_model.specs.declared.reply.Reply.{Reply}
-use Rattle.fs_model.specs.declared.reply.Stamps.{Stamps}
-use Rattle.fs_model.specs.declared.reply.Status.{Status}
-use Rattle.fs_model.specs.Limits.{move_limit, run_limit, write_limit}
-use Rattle.fuse_plans.specs.declared.mode.Mode.{Mode}
-use Rattle.fuse_plans.specs.declared.request_error.RequestError.{RequestError}
-use Rattle.fuse_plans.specs.declared.request.Asked.{Asked}
 use Rattle.fuse_protocol.specs.declared.operation.Extent.{Extent}
 use Rattle.fuse_protocol.specs.declared.reply.Time.{Time}
-use Rattle.fuse_state.specs.Changes.{told}
-use Rattle.fuse_state.proofs.Holders.{closed_within}
-use Rattle.fuse_state.specs.Servers.{Server, owner_of, descriptor_of}
-use Rattle.fuse_state.specs.declared.dentry.Dentry.{Dentry}
-use Rattle.fuse_plans.specs.Acts.{given_name, IsObject, IsStandingDirectory, IsOfRequest, is_given, named_in, on_one, Concerns, without_path, IsGivenName, changes}
-use Rattle.fuse_plans.specs.Conduct.{Rights, stays, by_handle, is_on, IsByHandle}
-use Rattle.fuse_plans.specs.FilePlans.{touched_if, ask_first, open_object, open_file, or_opened, open_or_make, show_open, confirm_shown, confirm_open, look_open, tell_created, create_file, the_open, call_open, seek, seek_open, read_piece, read_pieces, read_file, or_done, write_piece, write_pieces, or_by_moves, write_runs, pieces_in, pieces_of, write_file, close_file}
-use Rattle.fuse_plans.specs.Flags.{is_trunc}
-use Rattle.fuse_plans.proofs.Conducts.{Still, still-as, SameOwn, SameAll, Does, Lasts, does-give, does-fail, does-kept, does-keep_within, does-told_stamps, does->>=, does-attempt, does-needed, does-lasts, lasts->>=, keep-lasts, then-lasts, then-does}
-use Rattle.fuse_plans.proofs.Calls.{CanCall, AsksOf, is-object, does-obtain, does-or_closed, does-between, does-on, does-replied_status, gives-number, gives-standing_directory}
-use Rattle.fuse_plans.proofs.Chosen.{OfOpener, does-opener}
-use Rattle.fuse_plans.proofs.Openers.{opener-can, about-opener, may_open-as, does-keep_opener, does-keep_handle, does-keep_opened, does-with_handle, lasts-with_handle}
-use Rattle.fuse_plans.proofs.Forms.{does-if, does-when, does-done, does-keep_still, does-replied_data, does-replied_count}
-use Rattle.fuse_plans.proofs.MaskConducts.{does-new_valid_of}
-use Rattle.fuse_plans.proofs.NameConducts.{found-same, does-plain_name, given-in}
-
-told-same : (now : Time) (p : Dentry) (n : ℕ) (kind : FileType) (is_new is_cut : Bool) → SameOwn (told now p n kind is_new is_cut)
-told-same now p n kind true is_cut s = (refl, refl)
-told-same now p n kind false true s = found-same p n kind s
-told-same now p n kind false false s = found-same p n kind s
+use Rattle.fuse_state.specs.Servers.{Server}
+use Rattle.fuse_state.specs.Changes.{opened_or_made}
+use Rattle.fuse_plans.specs.declared.mode.Mode.{Mode}
+use Rattle.fuse_plans.specs.declared.mode.Mode.TheVariants.{Reads, Writes, Both}
+use Rattle.fuse_plans.specs.declared.request_error.RequestError.{RequestError}
+use Rattle.fuse_plans.specs.declared.request.Asked.{Asked}
+use Rattle.fuse_plans.specs.Works.{obtain}
+use Rattle.fuse_plans.specs.Callers.{server_credential, actor_in, on}
+use Rattle.fuse_plans.specs.Flags.{is_exec, is_trunc, opening}
+use Rattle.fuse_plans.specs.FilePlans.{when, done, opener, asked_mode, touched_if, open_object, open_file, or_opened, open_or_make, show_timed, look_open, tell_created, create_by, create_file, read_file, write_piece, or_done, write_pieces, or_by_moves, write_runs, touch_open_if, touch_open, write_file, close_file}
+use Rattle.fuse_plans.specs.Acts.{AskedBefore, given_name, IsGivenName}
+use Rattle.fuse_plans.specs.Conduct.{Rights, MayRun, to_run, is_close, releases, given, MayAsk}
+use Rattle.fuse_plans.proofs.Conducts.{Any, Still, SameHeld, SameAll, DoesTo, Does, Lasts, OkTo, gives, does-give, does-fail, does-kept, does-keep, does-needed, does-if, forget, then->>=, with->>=, does->>=, does-attempt, does-lasts, lasts-then, lasts-with, lasts->>=, keep-lasts}
+use Rattle.fuse_plans.proofs.Calls.{run-later, WasGranted, granted-later, IsOpened, opened-told, About, was_told, concerns-about, acts-on, does-obtain, does-on, does-inside, does-replied_opened, does-or_closed, does-look, does-told_stamps, IsOwn, IsFor, own-object, gives-own, gives-caller}
+use Rattle.fuse_plans.proofs.NameConducts.{does-plain_name, does-new_valid, names-as, in-own}
 
 touched_if-same : (is_cut : Bool) (now : Time) (n : ℕ) → SameAll (touched_if is_cut now n)
-touched_if-same true now n s = (refl, refl, refl, refl, refl)
-touched_if-same false now n s = (refl, refl, refl, refl, refl)
+touched_if-same true now n s = (refl, refl)
+touched_if-same false now n s = (refl, refl)
+
+told-same : (now : Time) (d n : ℕ) (is_new is_cut : Bool) → SameHeld (opened_or_made now d n is_new is_cut)
+told-same now d n true is_cut s = refl
+told-same now d n false true s = refl
+told-same now d n false false s = refl
 
 -- ---- to open
 
-module _ {rights : Rights} (r : Asked) (is : rights.cred ≡ r.cred) (asks : AsksOf rights r.node) where
-  does-ask_first : (pid n flags : ℕ) → IsObject rights.subject n → Does rights (OfOpener rights pid) (ask_first pid n flags)
-  does-ask_first pid n flags object =
-      does-when _ _ (does-done (does-on pid n _ (λ path. opener-can pid _ refl) (λ path. refl) (about-opener pid n object)))
+module _ {rights : Rights} {known : AskedBefore} {n : ℕ} (cred : Credential) (who : rights.cred ≡ Some cred) (about : About rights known n) where
+  -- where it is to be run, that was granted
+  gives-asked : {P : Server → Type 0} (runs : Bool)
+      → DoesTo rights P known (λ past x. IsTrue runs → MayRun rights.cred past n) (when runs (done (on cred n (Access [] (perms_of 1)))))
+  gives-asked true =
+      then->>= (does-on cred n _ (acts-on (Access [] (perms_of 1)) who refl about)) (λ reply now more asked.
+      gives tt (λ past again so. run-later again (record { asker = actor_in cred n; is_who_asks = who; starts = refl; reply = reply; was_asked = asked.was; granted = asked.granted })))
+  gives-asked false = gives tt (λ past more so. absurd (let no : false ≡ true = so in cc))
 
-  does-confirm_open : (pid fd n : ℕ) (cuts : Bool) → Does rights (OfOpener rights pid) (confirm_open pid fd n cuts)
-  unfolding show_open confirm_shown confirm_open
-  does-confirm_open pid fd n cuts =
-      does->>= (does-attempt
-      (does->>= (does->>= (does-obtain pid _ (opener-can pid _ refl) (without_path refl refl refl)) does-replied_status) (λ status.
-      does->>= (does-if _ _ _ (does-give tt) (does-fail _)) (λ same.
-      does-when cuts _ (does-done (does-obtain pid _ (opener-can pid _ refl) (without_path refl refl refl))))))) (λ confirmed.
-      does-or_closed pid fd confirmed (opener-can pid _ refl))
+-- What is opened for reading alone, and not cut, the server may open where who asks may run it; and who asks may always ask.
+module _ {rights : Rights} {known : AskedBefore} {n : ℕ} (cred : Credential) (who : rights.cred ≡ Some cred) (about : About rights known n) where
+  opens-to_read : (runs cut : Bool) → (IsTrue runs → MayRun rights.cred known n)
+      → MayAsk rights known (CallAt (actor_in (if runs && not cut then server_credential else cred) n) (OpenCall [] (opening (if cut then Both else Reads) cut) 0))
+  opens-to_read true false may = (to_run refl (may refl) refl, concerns-about server_credential _ refl about)
+  opens-to_read true true may = acts-on _ who refl about
+  opens-to_read false cut may = acts-on _ who refl about
 
-  does-open_object : (now : Time) (pid n flags : ℕ) (mode : Mode) → IsObject rights.subject n → Does rights (OfOpener rights pid) (open_object now pid n flags mode)
-  does-open_object now pid n flags mode object =
-      does->>= (does-on pid n _ (λ path. opener-can pid _ refl) (λ path. refl) (about-opener pid n object)) (λ reply.
-      does-with_handle pid reply (λ handle owner.
-      does->>= (does-confirm_open pid _ n _) (λ confirmed.
-      does->>= (does-keep_opener _ (touched_if-same (is_trunc flags) now n)) (λ touched.
-      does->>= (does-keep_handle pid handle n owner) (λ done. does-give _)))))
+  opens-to_write : (runs cut : Bool) (mode : Mode)
+      → MayAsk rights known (CallAt (actor_in (if runs && false then server_credential else cred) n) (OpenCall [] (opening mode cut) 0))
+  opens-to_write true cut mode = acts-on _ who refl about
+  opens-to_write false cut mode = acts-on _ who refl about
 
-  pub lasts-open_file : (flags : ℕ) → Lasts rights (Still rights) (open_file r flags)
-  lasts-open_file flags =
-      then-lasts (gives-number _ (is-object rights _ asks)) (λ n object.
-      lasts->>= (does-needed _ _) (λ mode.
-      then-does (does-opener _ is) (λ pid more.
-      does->>= (does-ask_first pid n flags object) (λ asked.
-      does->>= (does-open_object _ pid n flags mode object) (λ handle. does-kept _)))))
+  opens-by : (flags : ℕ) (mode : Mode) → (IsTrue (is_exec flags) → MayRun rights.cred known n)
+      → MayAsk rights known (CallAt (actor_in (opener cred flags mode) n) (OpenCall [] (opening (asked_mode flags mode) (is_trunc flags)) 0))
+  opens-by flags Reads may = opens-to_read (is_exec flags) (is_trunc flags) may
+  opens-by flags Writes may = opens-to_write (is_exec flags) (is_trunc flags) Writes
+  opens-by flags Both may = opens-to_write (is_exec flags) (is_trunc flags) Both
+
+module _ {rights : Rights} {known : AskedBefore} where
+  does-open_object : (now : Time) (cred : Credential) (n flags : ℕ) (mode : Mode) → rights.cred ≡ Some cred → IsOwn rights n
+      → Does rights (Still rights) known (open_object now cred n flags mode)
+  does-open_object now cred n flags mode who own =
+      then->>= (gives-asked cred who (own-object own) (is_exec flags)) (λ done_first asked_then more may.
+      then->>= (does-on _ n _ (opens-by cred who (own-object own) flags mode may)) (λ reply opened_then again asked.
+      does->>= (does-replied_opened _ reply asked) (λ opened.
+      does->>= (does-keep _ (touched_if-same (is_trunc flags) now n)) (λ touched. does-kept _))))
+
+  pub does-open_file : (r : Asked) → IsFor rights r → (flags : ℕ) → Does rights (Still rights) known (open_file r flags)
+  does-open_file r of flags =
+      with->>= (gives-own of) (λ n own.
+      does->>= (does-needed _ _) (λ mode.
+      with->>= (gives-caller _ of.cred) (λ cred who. does-open_object _ cred n flags mode who own)))
 
 -- ---- to create
 
-module _ {rights : Rights} (r : Asked) (is : rights.cred ≡ r.cred) (node : rights.subject.node ≡ r.node) where
-  does-or_opened : {P : Server → Type 0} (pid d : ℕ) (name : List ℕ) (mode : Mode) (flags : ℕ) (first : Result Reply RequestError)
-      → ((call : Call) → IsTrue (stays call) → CanCall rights P pid call) → IsOfRequest rights.subject (named_in d name) → Does rights P (or_opened pid d name mode flags first)
-  does-or_opened pid d name mode flags (Ok reply) can of = does-give _
-  does-or_opened pid d name mode flags (Err e) can of =
-      does-if _ _ _ (does->>= (does-between pid d d _ (can _ refl) (on_one name refl refl of)) (λ reply. does-give _)) (does-fail e)
+-- what was granted with this reply
+record IsReplied (past : AskedBefore) (reply : Reply) : Type 0 where
+  event : Event
+  asked : WasGranted past event reply
 
-  does-open_or_make : (pid d : ℕ) (name : List ℕ) (mode : Mode) (flags file_mode : ℕ) → IsGivenName rights.subject (named_in d name)
-      → Does rights (OfOpener rights pid) (open_or_make pid d name mode flags file_mode)
+module _ {rights : Rights} {P : Server → Type 0} {known : AskedBefore} where
+  gives-or_opened : (cred : Credential) (d : ℕ) (name : List ℕ) (mode : Mode) (flags : ℕ) (event : Event) (first : Result Reply RequestError)
+      → OkTo (λ past reply. WasGranted past event reply) known first → rights.cred ≡ Some cred → IsGivenName rights.subject d name
+      → DoesTo rights P known (λ past opened. IsReplied past opened.0) (or_opened cred d name mode flags first)
+  gives-or_opened cred d name mode flags event (Ok reply) asked who in_it =
+      gives (reply, true) (λ past more. record { event = event; asked = granted-later more asked })
+  gives-or_opened cred d name mode flags event (Err e) asked who in_it =
+      does-if _ _ _
+      (then->>= (does-inside cred d _ (names-as cred 0 _ who refl in_it)) (λ reply now more again.
+      gives (reply, false) (λ past later. record { event = _; asked = granted-later later again })))
+      (does-fail e)
+
+  does-show_timed : (n : ℕ) → About rights known n → Does rights P known (show_timed n)
+  does-show_timed n about = does->>= (does-look n about) (λ status. does->>= (does-told_stamps _) (λ stamps. does-give _))
+
+module _ {rights : Rights} {P : Server → Type 0} {known : AskedBefore} where
+  gives-open_or_make : (cred : Credential) (umask d : ℕ) (name : List ℕ) (mode : Mode) (flags file_mode : ℕ) → rights.cred ≡ Some cred → IsGivenName rights.subject d name
+      → DoesTo rights P known (λ past opened. IsReplied past opened.0) (open_or_make cred umask d name mode flags file_mode)
   unfolding open_or_make
-  does-open_or_make pid d name mode flags file_mode in_it =
-      does->>= (does-attempt (does-between pid d d _ (opener-can pid _ refl) (changes name refl refl in_it))) (λ first.
-      does-or_opened pid d name mode flags first (opener-can pid) (is_given in_it))
+  gives-open_or_make cred umask d name mode flags file_mode who in_it =
+      then->>= (does-attempt (does-obtain _ (names-as cred umask _ who refl in_it))) (λ first now more asked.
+      gives-or_opened cred d name mode flags _ first asked who in_it)
 
-  does-look_open : (pid fd : ℕ) → Does rights (OfOpener rights pid) (look_open pid fd)
-  unfolding show_open look_open
-  does-look_open pid fd =
-      does->>= (does-attempt
-      (does->>= (does->>= (does-obtain pid _ (opener-can pid _ refl) (without_path refl refl refl)) does-replied_status) (λ status.
-      does->>= (does-told_stamps _) (λ stamps. does-give _)))) (λ seen.
-      does-or_closed pid fd seen (opener-can pid _ refl))
+  does-look_open : (handle n : ℕ) → rights.handle ≡ None → IsOpened known handle n → Does rights P known (look_open handle n)
+  unfolding look_open
+  does-look_open handle n alone opened =
+      then->>= (does-attempt (does-show_timed n (was_told (opened-told opened)))) (λ seen now more told.
+      does-or_closed handle seen alone (record { event = opened.event; was = more.has _ _ opened.was }))
 
-  lasts-tell_created : (now : Time) (name_valid : ℕ) (p : Dentry) (is_new is_cut : Bool) (pid handle : ℕ) (seen : Status × Option Stamps) → owner_of handle ≡ pid
-      → Lasts rights (OfOpener rights pid) (tell_created now name_valid p is_new is_cut handle seen)
+module _ {rights : Rights} {known : AskedBefore} where
+  lasts-tell_created : (now : Time) (name_valid d : ℕ) (is_new is_cut : Bool) (opened : ℕ × ℕ) → rights.handle ≡ None → IsOpened known opened.0 opened.1
+      → Lasts rights (Still rights) known (tell_created now name_valid d is_new is_cut opened)
   unfolding tell_created
-  lasts-tell_created now name_valid p is_new is_cut pid handle seen owner =
-      let same = told-same now p seen.0.ino seen.0.kind is_new is_cut in
-      keep-lasts _ same (λ s of. may_open-as s (told now p seen.0.ino seen.0.kind is_new is_cut s) (same s).0 of.may)
-      (does-lasts (does->>= (does-keep_opened pid handle seen.0.ino owner) (λ done. does-kept _)))
+  lasts-tell_created now name_valid d is_new is_cut opened alone is =
+      keep-lasts {Q = Any} (opened_or_made now d opened.1 is_new is_cut) (told-same now d opened.1 is_new is_cut) (λ s still. tt)
+      (does-lasts (does->>= (does-look_open opened.0 opened.1 alone is) (λ seen. does-kept _)))
 
-  pub lasts-create_file : AsksOf rights r.node → (name : List ℕ) (flags mode umask : ℕ) → given_name rights.subject.operation ≡ Some name
-      → Lasts rights (Still rights) (create_file r name flags mode umask)
-  lasts-create_file asks name flags file_mode umask given =
+module _ {rights : Rights} {known : AskedBefore} where
+  lasts-create_by : (now : Time) (name_valid : ℕ) (cred : Credential) (umask d : ℕ) (name : List ℕ) (mode : Mode) (flags file_mode : ℕ)
+      → rights.handle ≡ None → rights.cred ≡ Some cred → IsGivenName rights.subject d name → Lasts rights (Still rights) known (create_by now name_valid cred umask d name mode flags file_mode)
+  lasts-create_by now name_valid cred umask d name mode flags file_mode alone who in_it =
+      lasts-then (gives-open_or_make cred umask d name mode flags file_mode who in_it) (λ opened opened_then more is.
+      lasts-then (does-replied_opened is.event opened.0 is.asked) (λ handle told_then again told. lasts-tell_created now name_valid d opened.1 (is_trunc flags) handle alone told))
+
+module _ {rights : Rights} {known : AskedBefore} where
+  pub lasts-create_file : (r : Asked) → IsFor rights r → (name : List ℕ) (flags file_mode umask : ℕ) → rights.handle ≡ None → given_name rights.subject.operation ≡ Some name
+      → Lasts rights (Still rights) known (create_file r name flags file_mode umask)
+  lasts-create_file r of name flags file_mode umask alone named =
       lasts->>= (does-plain_name name) (λ plain.
       lasts->>= (does-needed _ _) (λ mode.
-      then-lasts (gives-standing_directory _ (given-in rights r.node node name given)) (λ d in_it.
-      lasts->>= (does-new_valid_of rights r.node d asks (subst (λ k. IsStandingDirectory rights.subject.start k d) node in_it.directory)) (λ name_valid.
-      then-lasts (does-opener _ is) (λ pid more.
-      lasts->>= (does-obtain pid _ (opener-can pid _ refl) (without_path refl refl refl)) (λ old.
-      lasts->>= (does-open_or_make pid d name mode flags file_mode in_it) (λ opened.
-      lasts-with_handle pid opened.0 (λ handle owner.
-      lasts->>= (does-look_open pid _) (λ seen. lasts-tell_created _ _ _ opened.1 _ pid handle seen owner)))))))))
+      lasts-with (gives-own of) (λ d own.
+      lasts->>= (does-new_valid d (own-object own)) (λ name_valid.
+      lasts-with (gives-caller _ of.cred) (λ cred who. lasts-create_by r.now name_valid cred _ d name mode flags file_mode alone who (in-own name named own))))))
 
 -- ---- by a handle
 
--- what is asked by the handle that is given
-pub handle-can : {rights : Rights} {P : Server → Type 0} (handle : ℕ) → rights.handle ≡ Some handle → (call : Call) → IsTrue (is_on (descriptor_of handle) call)
-    → CanCall rights P (owner_of handle) call
-handle-can handle given call on known s fits = by_handle (subst (λ o. IsByHandle o (owner_of handle) call) (sym given) (refl, on))
+module _ {rights : Rights} {P : Server → Type 0} {known : AskedBefore} where
+  -- what is asked by the handle that is given
+  pub by-given : (handle : ℕ) (call : HandleCall) → rights.handle ≡ Some handle → is_close call ≡ releases rights.subject.operation
+      → DoesTo rights P known (λ past reply. WasGranted past (CallBy handle call) reply) (obtain (CallBy handle call))
+  by-given handle call is closing = does-obtain (CallBy handle call) (given is closing)
 
-pub itself : (n : ℕ) → (n == n) ≡ true
-itself n = nat_eq_equiv.refl n
+-- the handle that is given, and isn't released
+pub record IsKept (rights : Rights) (handle : ℕ) : Type 0 where
+  pub is : rights.handle ≡ Some handle
+  pub stays : false ≡ releases rights.subject.operation
 
-module _ {rights : Rights} {P : Server → Type 0} where
-  pub does-the_open : (handle : ℕ) → Does rights P (the_open handle)
-  unfolding the_open
-  does-the_open handle = does->>= (does-kept _) (λ n. does-needed _ n)
+module _ {rights : Rights} {P : Server → Type 0} {known : AskedBefore} where
+  -- what doesn't close it
+  pub by-kept : (handle : ℕ) (call : HandleCall) → IsKept rights handle → is_close call ≡ false
+      → DoesTo rights P known (λ past reply. WasGranted past (CallBy handle call) reply) (obtain (CallBy handle call))
+  by-kept handle call kept not_closed = by-given handle call kept.is (not_closed ∙ kept.stays)
 
-  does-seek : (handle : ℕ) → rights.handle ≡ Some handle → (offset : ℕ) → Does rights P (seek (owner_of handle) (descriptor_of handle) offset)
-  unfolding seek
-  does-seek handle given offset = does-if _ _ _ (does-obtain _ _ (handle-can handle given _ (itself _)) (without_path refl refl refl)) (does-fail _)
+module _ {rights : Rights} {P : Server → Type 0} {known : AskedBefore} where
+  pub does-read_file : (extent : Extent) → IsKept rights extent.handle → Does rights P known (read_file extent)
+  does-read_file extent is =
+      does->>= (by-kept extent.handle _ is refl) (λ reply. does->>= (does-needed _ _) (λ bytes. does-give _))
 
-  does-seek_open : (handle : ℕ) → rights.handle ≡ Some handle → (offset : ℕ) → Does rights P (seek_open handle offset)
-  does-seek_open handle given offset = does->>= (does-the_open handle) (λ n. does->>= (does-seek handle given offset) (λ at. does-give n))
+  does-write_piece : (handle offset : ℕ) (piece : List ℕ) → IsKept rights handle → Does rights P known (write_piece handle offset piece)
+  unfolding write_piece
+  does-write_piece handle offset piece is = does->>= (by-kept handle _ is refl) (λ reply. forget (does-needed _ _))
 
-  pub does-call_open : (handle : ℕ) → rights.handle ≡ Some handle → (call : Call) → IsTrue (is_on (descriptor_of handle) call) → Concerns rights.subject None call
-      → Does rights P (call_open handle call)
-  does-call_open handle given call on concerns = does->>= (does-the_open handle) (λ n. does-obtain _ call (handle-can handle given call on) concerns)
-
-  does-read_piece : (pid fd most : ℕ) → CanCall rights P pid (ReadCall fd most) → Does rights P (read_piece pid fd most)
-  unfolding read_piece
-  does-read_piece pid fd most can = does->>= (does-obtain pid _ can (without_path refl refl refl)) (λ reply. does-replied_data most reply)
-
-  does-read_pieces : (handle : ℕ) → rights.handle ≡ Some handle → (k size : ℕ) (bytes : List ℕ)
-      → Does rights P (read_pieces k (owner_of handle) (descriptor_of handle) size bytes)
-  unfolding read_pieces
-  does-read_pieces handle given zero size bytes = does-give bytes
-  does-read_pieces handle given (suc k) size bytes =
-      let later = λ (more : List ℕ). does-read_pieces handle given k (size - run_limit) more in
-      does-if _ _ _ (does-give bytes)
-      (does->>= (does-read_piece _ _ _ (handle-can handle given _ (itself _))) (λ piece. does-if _ _ _ (does-give _) (later _)))
-
-  pub does-read_file : (extent : Extent) → rights.handle ≡ Some extent.handle → Does rights P (read_file extent)
-  does-read_file extent given =
-      does->>= (does-seek_open extent.handle given _) (λ n.
-      does->>= (does-read_pieces extent.handle given _ _ _) (λ bytes. does-give _))
-
-  does-or_done : (done : ℕ) (wrote : Result ℕ RequestError) → Does rights P (or_done done wrote)
+  does-or_done : (done : ℕ) (wrote : Result ℕ RequestError) → Does rights P known (or_done done wrote)
   does-or_done done (Ok count) = does-give count
   does-or_done zero (Err e) = does-fail e
   does-or_done (suc done) (Err e) = does-give 0
 
-  does-write_piece : (pid : ℕ) (call : Call) → CanCall rights P pid call → Concerns rights.subject None call → Does rights P (write_piece pid call)
-  unfolding write_piece
-  does-write_piece pid call can concerns = does->>= (does-obtain pid call can concerns) (λ reply. does-replied_count _ reply)
-
-  does-write_pieces : (handle : ℕ) → rights.handle ≡ Some handle → (done : ℕ) (pieces : List (List ℕ))
-      → Does rights P (write_pieces (owner_of handle) done (map (WriteCall (descriptor_of handle)) pieces))
+  does-write_pieces : (handle offset done : ℕ) (pieces : List (List ℕ)) → IsKept rights handle → Does rights P known (write_pieces handle offset done pieces)
   unfolding write_pieces
-  does-write_pieces handle given done [] = does-give done
-  does-write_pieces handle given done (piece ∷ pieces) =
-      let later = λ (count : ℕ). does-write_pieces handle given (done + count) pieces in
-      does->>= (does-attempt (does-write_piece _ (WriteCall (descriptor_of handle) piece) (handle-can handle given _ (itself _)) (without_path refl refl refl))) (λ wrote.
+  does-write_pieces handle offset done [] is = does-give done
+  does-write_pieces handle offset done (piece ∷ pieces) is =
+      let later = λ (count : ℕ). does-write_pieces handle offset (done + count) pieces is in
+      does->>= (does-attempt (does-write_piece handle (offset + done) piece is)) (λ wrote.
       does->>= (does-or_done done wrote) (λ count.
       does-if _ _ _ (does-give _) (later count)))
 
-  does-or_by_moves : (handle : ℕ) → rights.handle ≡ Some handle → (moves : List (List ℕ)) (wrote : Result ℕ RequestError)
-      → Does rights P (or_by_moves (owner_of handle) (map (WriteCall (descriptor_of handle)) moves) wrote)
-  does-or_by_moves handle given moves (Ok count) = does-give count
-  does-or_by_moves handle given moves (Err e) = does-if _ _ _ (does-write_pieces handle given 0 moves) (does-fail e)
+  does-or_by_moves : (handle offset : ℕ) (bytes : List ℕ) (wrote : Result ℕ RequestError) → IsKept rights handle → Does rights P known (or_by_moves handle offset bytes wrote)
+  does-or_by_moves handle offset bytes (Ok count) is = does-give count
+  does-or_by_moves handle offset bytes (Err e) is = does-if _ _ _ (does-write_pieces handle offset 0 _ is) (does-fail e)
 
-  does-write_runs : (handle : ℕ) → rights.handle ≡ Some handle → (runs moves : List (List ℕ))
-      → Does rights P (write_runs (owner_of handle) (map (WriteCall (descriptor_of handle)) runs) (map (WriteCall (descriptor_of handle)) moves))
+  does-write_runs : (handle offset : ℕ) (bytes : List ℕ) → IsKept rights handle → Does rights P known (write_runs handle offset bytes)
   unfolding write_runs
-  does-write_runs handle given runs moves = does->>= (does-attempt (does-write_pieces handle given 0 runs)) (does-or_by_moves handle given moves)
+  does-write_runs handle offset bytes is =
+      does->>= (does-attempt (does-write_pieces handle offset 0 _ is)) (λ wrote. does-or_by_moves handle offset bytes wrote is)
 
-module _ {rights : Rights} where
-  pub does-write_file : (r : Asked) (handle offset : ℕ) (bytes : List ℕ) → rights.handle ≡ Some handle → Does rights (Still rights) (write_file r handle offset bytes)
-  does-write_file r handle offset bytes given =
-      let by = λ (most : ℕ). pieces_in most (pieces_of most (length bytes)) bytes in
-      does->>= (does-seek_open handle given offset) (λ n.
-      does->>= (does-write_runs handle given (by write_limit) (by move_limit)) (λ count.
-      does->>= (does-keep_still _ (λ s. (refl, refl, refl, refl, refl))) (λ done. does-give _)))
+  pub does-close_file : (handle : ℕ) → rights.handle ≡ Some handle → true ≡ releases rights.subject.operation → Does rights P known (close_file handle)
+  does-close_file handle is closing = does->>= (by-given handle _ is closing) (λ closed. does-give _)
 
-  pub does-close_file : (handle : ℕ) → rights.handle ≡ Some handle → Does rights (Still rights) (close_file handle)
-  does-close_file handle given =
-      does->>= (does-call_open handle given _ (itself _) (without_path refl refl refl)) (λ closed.
-      does->>= (does-keep_within _ (λ s. (refl, refl)) (λ s still within start. closed_within s handle (within start)) (λ s still. still-as refl refl refl still)) (λ done. does-give _))
+module _ {rights : Rights} {known : AskedBefore} where
+  does-touch_open_if : (keeps : Bool) (now : Time) (handle : ℕ) → IsKept rights handle → Does rights (Still rights) known (touch_open_if keeps now handle)
+  does-touch_open_if true now handle is = does-give tt
+  does-touch_open_if false now handle is =
+      does->>= (by-kept handle _ is refl) (λ reply. does->>= (does-needed _ _) (λ status. does-keep _ (λ s. (refl, refl))))
+
+  does-touch_open : (now : Time) (handle : ℕ) → IsKept rights handle → Does rights (Still rights) known (touch_open now handle)
+  unfolding touch_open
+  does-touch_open now handle is = does->>= (does-kept _) (λ keeps. does-touch_open_if keeps now handle is)
+
+  pub does-write_file : (now : Time) (handle offset : ℕ) (bytes : List ℕ) → IsKept rights handle → Does rights (Still rights) known (write_file now handle offset bytes)
+  does-write_file now handle offset bytes is =
+      does->>= (does-if _ _ _ (does-give tt) (does-fail _)) (λ within.
+      does->>= (does-write_runs handle offset bytes is) (λ count.
+      does->>= (does-attempt (does-touch_open now handle is)) (λ touched. does-give _)))

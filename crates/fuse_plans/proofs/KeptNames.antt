@@ -1,764 +1,335 @@
 -- What the kernel may keep of names.
---     TellsSo        work that ends with an answer of some kind
---     OnceAt        work that asks nothing
+--     valid-seen, new-sees        for how long a new name may be kept, and what was seen of its directory
+--     told-kept        the same where the machine is told the time first
 --     names_are_kept_where_judged, only_missing_names_are_absent
-use Rattle.std.specs.Prelude.{◌≡◌, ℕ, ◌<◌, Bool, true, false, ◌&&◌, List, [], ◌∷◌, ◌++◌, Option, None, Some, unwrap_or, Result, Ok, Err, if◌then◌else◌, bit_and}
-use Rattle.std.proofs.Common.{refl, sym, ap, subst, arith}
-use Rattle.std.proofs.lemmas.List.{append_assoc}
-use Rattle.posix_acl.specs.AccessList.{AccessList}
-use Rattle.fs_cred.specs.declared.errno.Errno.TheVariants.{EPERM, ENOENT, EINVAL, ENOMEM}
-use Rattle.fs_cred.specs.declared.refusal.Refusal.{Refusal}
-use Rattle.fs_model.specs.Limits.{root}
-use Rattle.fs_model.specs.declared.call.Call.{Call}
-use Rattle.fs_model.specs.declared.call.Call.TheVariants.{Open as OpenCall, Lstat, Mkdir, Symlink}
+use Rattle.std.specs.Prelude.{◌≡◌, ℕ, ◌<◌, ◌==◌, Bool, true, false, not, List, [], ◌∷◌, ◌++◌, bit_and, Option, None, Some, Ok, Err, IsTrue, if◌then◌else◌}
+use Rattle.std.proofs.Common.{refl, sym, subst, arith}
+use Rattle.fs_layout.proofs.FirstEntries.{left as and-first}
+use Rattle.fs_cred.specs.declared.errno.Errno.TheVariants.{EINVAL, EPERM}
+use Rattle.fs_model.specs.declared.call.Call.TheVariants.{Open as OpenCall}
 use Rattle.fs_model.specs.declared.event.Event.{Event}
-use Rattle.fs_model.specs.declared.event.Event.TheVariants.{Call as Calls, Enter}
+use Rattle.fs_model.specs.declared.event.Event.TheVariants.{Clock}
 use Rattle.fs_model.specs.declared.reply.Reply.{Reply}
-use Rattle.fs_model.specs.declared.reply.Reply.TheVariants.{Refused}
-use Rattle.fs_model.specs.declared.reply.Status.{Status}
 use Rattle.fuse_protocol.specs.declared.operation.Operation.{Operation}
-use Rattle.fuse_protocol.specs.declared.operation.Operation.TheVariants.{Lookup, Forget, GetAttr, SetAttr, ReadLink, SymLink, MkNod, MkDir, Unlink, RmDir, Rename, Link, Open, Read, Write, StatFs, Release, FSync, SetXAttr, GetXAttr, ListXAttr, RemoveXAttr, Init, OpenDir, ReadDir, ReadDirPlus, ReleaseDir, FSyncDir, Access, Create, Interrupt, Destroy, BatchForget, SyncFs, Unknown}
-use Rattle.fuse_protocol.specs.declared.reply.Time.{Time}
+use Rattle.fuse_protocol.specs.declared.operation.Operation.TheVariants.{Lookup, SymLink, MkNod, MkDir, Create}
 use Rattle.fuse_state.specs.Servers.{Server, number_of_node}
-use Rattle.fuse_plans.specs.declared.mode.Mode.{Mode}
-use Rattle.fuse_plans.specs.declared.request.Asked.{Asked}
+use Rattle.fuse_state.specs.Stamps.{stamp_of}
 use Rattle.fuse_plans.specs.declared.reply.ReplyBody.{ReplyBody}
 use Rattle.fuse_plans.specs.declared.reply.ReplyBody.TheVariants.{Absent}
 use Rattle.fuse_plans.specs.declared.reply.Response.{Response}
 use Rattle.fuse_plans.specs.declared.reply.Response.TheVariants.{Silence, Says, Fails}
-use Rattle.fuse_plans.specs.declared.request_error.RequestError.{RequestError}
-use Rattle.fuse_plans.specs.declared.request_error.RequestError.TheVariants.{Refuses, Lacks}
-use Rattle.fuse_plans.specs.declared.request_error.OtherErrno.TheVariants.{ESTALE}
-use Rattle.fuse_plans.specs.RequestErrors.{failed, is_for}
-use Rattle.fuse_plans.specs.Plans.{Plan, Finish, Ask, followed_by, IsRunOf, IsAsked, at_once, later}
-use Rattle.fuse_plans.specs.Works.{Work, give, fail, kept, goes_on, ◌>>=◌, ◌>>◌, attempt, needed, ask, give_unless, refusal_in, unless_refused, unexpected, status_of_reply, replied_status}
-use Rattle.fuse_plans.specs.Callers.{caller, caller_with_room, the_server_process, between, look_inside, the_number, is_known_directory, directory_number, standing_directory, has_dentry}
+use Rattle.fuse_plans.specs.RequestErrors.{failed}
+use Rattle.fuse_plans.specs.Plans.{Plan, IsRunOf}
+use Rattle.fuse_plans.specs.Works.{Work, give, fail, kept, goes_on, ◌>>=◌, ◌>>◌, attempt, ask}
 use Rattle.fuse_plans.specs.Flags.{mode_in, making}
 use Rattle.fuse_plans.specs.Masks.{list_hides}
-use Rattle.fuse_plans.specs.Times.{tell_time}
-use Rattle.fuse_plans.specs.Alterations.{says_change}
-use Rattle.fuse_plans.specs.AttributePlans.{tell_attributes}
-use Rattle.fuse_plans.specs.NamePlans.{plain_name, directory_for, or_absent, searched_directory, keeps_absent, found_or_absent, find_inside, find_name, keeps_names, unless_hidden, new_valid_if, new_valid, made, make_by, make_link, set_umask, make_masked, make_directory, is_of_file, make_file}
-use Rattle.fuse_plans.specs.FilePlans.{tell_created, create_by, create_file}
-use Rattle.fuse_plans.specs.ListingPlans.{read_directory_plus}
-use Rattle.fuse_plans.specs.DirectoryPlans.{take_directory, take_directory_if, read_directory, close_directory, sync_all}
-use Rattle.fuse_plans.specs.AclPlans.{sized, set_acl}
+use Rattle.fuse_plans.specs.Times.{tell_time_if, tell_time}
+use Rattle.fuse_plans.specs.NamePlans.{keeps_names, unless_hidden, new_valid_if, new_valid, make_link, make_directory, is_of_file, make_file, make_closed, directory_for, find_name}
+use Rattle.fuse_plans.specs.FilePlans.{create_file}
 use Rattle.fuse_plans.specs.Requests.{Request, asked_of}
-use Rattle.fuse_plans.specs.declared.request.WhoCounts.{WhoCounts}
-use Rattle.fuse_plans.specs.Nobody.{is_judged, needs_nobody, who_counts_in, is_nobody}
-use Rattle.fuse_plans.proofs.Counting.{found_nobody, names-unread}
-use Rattle.fuse_plans.specs.Serving.{Task, Replying, Silently, begin, count_space, end, plan_of, told_first, asked_for, answered, answered_as, request_plan}
-use Rattle.fuse_plans.specs.Laws.{names_an_object, IsDoneBy}
-use Rattle.fuse_plans.specs.KeepingLaws.{name_valid_in, MayKeepName, is_looked_up, is_new, NamesAreKeptWhereJudged, IsRefusedForAbsence, IsMissing, OnlyMissingNamesAreAbsent}
-use Rattle.fuse_plans.proofs.PlanLaws.{run-followed_by, run-parts}
-use Rattle.fuse_plans.proofs.AllEnds.{AllEnd, all-weaker, all-followed_by, all-run}
-use Rattle.fuse_plans.proofs.OpenedObjects.{EndsWell, finished, ok_is, fails_not_well, run-told, was_told, before}
-use Rattle.fuse_plans.proofs.Leaving.{by-or_absent}
-
--- ---- what is told
-abbrev is_absent : ReplyBody → Bool
-is_absent (Absent valid) = true
-is_absent _ = false
-
-abbrev EndsSo : (ReplyBody → Type 0) → Result ReplyBody RequestError × Server → Type 0
-EndsSo P (Ok body, t) = P body
-EndsSo P (Err e, t) = Unit {0}
-
--- where it ends well, P holds of what it tells
-record TellsSo (P : ReplyBody → Type 0) (w : Work ReplyBody) : Type 0 where
-  at : (s : Server) → AllEnd (EndsSo P) (w s)
-
-all-anyhow : {X : Type 0} (p : Plan X) → AllEnd (λ x. Unit {0}) p
-all-anyhow (Finish x) = tt
-all-anyhow (Ask e next) = λ reply. all-anyhow (next reply)
-
-module _ {P : ReplyBody → Type 0} where
-  so-then : {X : Type 0} (w : Work X) (f : X → Work ReplyBody) → ((x : X) → TellsSo P (f x)) → TellsSo P (w >>= f)
-  unfolding ◌>>=◌
-  so-then {X} w f rest = record { at = λ s. all-followed_by (λ r. Unit {0}) (EndsSo P) (w s) (goes_on f) (all-anyhow (w s)) after }
-    where
-      after : (r : Result X RequestError × Server) → Unit {0} → AllEnd (EndsSo P) (goes_on f r)
-      after (Ok x, t) any = (rest x).at t
-      after (Err e, t) any = tt
-
-  so-after : {X : Type 0} (w : Work X) {f : X → Work ReplyBody} → ((x : X) → TellsSo P (f x)) → TellsSo P (w >>= f)
-  so-after {X} w {f} rest = so-then w f rest
-
-  so-give : (body : ReplyBody) → P body → TellsSo P (give body)
-  unfolding give
-  so-give body is = record { at = λ s. is }
-
-  so-kept : (f : Server → ReplyBody) → ((s : Server) → P (f s)) → TellsSo P (kept f)
-  unfolding kept
-  so-kept f is = record { at = λ s. is s }
-
-  so-fail : (e : RequestError) → TellsSo P (fail e)
-  unfolding fail
-  so-fail e = record { at = λ s. tt }
-
-  so-if : (b : Bool) (w v : Work ReplyBody) → TellsSo P w → TellsSo P v → TellsSo P (if b then w else v)
-  so-if true w v first second = first
-  so-if false w v first second = second
-
-so-weaker : {P Q : ReplyBody → Type 0} {w : Work ReplyBody} → ((body : ReplyBody) → P body → Q body) → TellsSo P w → TellsSo Q w
-so-weaker {P} {Q} {w} weaker so = record { at = λ s. all-weaker (EndsSo P) (EndsSo Q) (w s) (so.at s) ends }
-  where
-    ends : (r : Result ReplyBody RequestError × Server) → EndsSo P r → EndsSo Q r
-    ends (Ok body, t) is = weaker body is
-    ends (Err e, t) any = tt
-
-so-run : {P : ReplyBody → Type 0} (w : Work ReplyBody) (s t : Server) (es : List Event) (replies : List Reply) (body : ReplyBody) → TellsSo P w
-    → EndsWell (w s) es replies body t → P body
-so-run {P} w s t es replies body so runs = all-run (EndsSo P) (w s) es replies (Ok body, t) (so.at s) runs
-
--- a name is told for so many seconds
-abbrev IsFor : ℕ → ReplyBody → Type 0
-IsFor valid body = (name_valid_in body ≡ valid) × (is_absent body ≡ false)
-
-abbrev IsThere : ReplyBody → Type 0
-IsThere body = is_absent body ≡ false
-
-abbrev TellsFor : ℕ → Work ReplyBody → Type 0
-TellsFor valid w = TellsSo (IsFor valid) w
-
-for-made : (now : Time) (valid d : ℕ) (name : List ℕ) → TellsFor valid (made now valid d name)
-unfolding made
-for-made now valid d name = so-after _ (λ pid. so-after _ (λ status. so-after _ (λ stamps. so-after _ (λ done. so-kept _ (λ s. (refl, refl))))))
-
-for-make_by : (now : Time) (valid pid d : ℕ) (call : Call) (name : List ℕ) → TellsFor valid (make_by now valid pid d call name)
-for-make_by now valid pid d call name = so-after _ (λ done. for-made now valid d name)
-
-for-create_by : (r : Asked) (valid d : ℕ) (name : List ℕ) (mode : Mode) (flags file_mode umask : ℕ) (pid : ℕ)
-    → TellsFor valid (create_by r.now valid pid d name mode flags file_mode)
-unfolding tell_created
-for-create_by r valid d name mode flags file_mode umask pid =
-    so-after _ (λ opened. so-after _ (λ handle. so-after _ (λ seen. so-after _ (λ told. so-after _ (λ added. so-kept _ (λ s. (refl, refl)))))))
-
-abbrev create_in : Asked → List ℕ → Mode → ℕ → ℕ → ℕ → ℕ → ℕ → Work ReplyBody
-create_in r name mode flags file_mode umask d valid =
-    caller_with_room r.cred >>= (λ pid. set_umask pid umask >>= (λ _. create_by r.now valid pid d name mode flags file_mode))
-
-for-create_in : (r : Asked) (name : List ℕ) (mode : Mode) (flags file_mode umask d valid : ℕ) → TellsFor valid (create_in r name mode flags file_mode umask d valid)
-for-create_in r name mode flags file_mode umask d valid =
-    so-after _ (λ pid. so-after _ (λ masked. for-create_by r valid d name mode flags file_mode umask pid))
-
-abbrev file_in : Asked → List ℕ → ℕ → ℕ → ℕ → ℕ → Work ReplyBody
-file_in r name mode umask d valid =
-    caller_with_room r.cred >>= (λ pid. make_masked r.now valid umask pid d (OpenCall name making (bit_and mode 0o777)) name)
-
-for-file_in : (r : Asked) (name : List ℕ) (mode umask d valid : ℕ) → TellsFor valid (file_in r name mode umask d valid)
-for-file_in r name mode umask d valid =
-    so-after _ (λ pid. so-after _ (λ masked. for-make_by r.now valid pid d (OpenCall name making (bit_and mode 0o777)) name))
-
--- ---- requests that tell no name
-
--- work, that tells so
-abbrev IfTellsSo : (ReplyBody → Type 0) → Task → Type 0
-IfTellsSo P (Silently f) = Unit {0}
-IfTellsSo P (Replying w) = TellsSo P w
-
--- also where the machine is told the time first
-so-told_first : (P : ReplyBody → Type 0) (says : Bool) (now : Time) (task : Task) → IfTellsSo P task → IfTellsSo P (told_first says now task)
-so-told_first P false now task so = so
-so-told_first P true now (Replying w) so = so-after _ (λ told. so)
-so-told_first P true now (Silently f) so = so
-
-abbrev IfTellsNone : Task → Type 0
-IfTellsNone task = IfTellsSo (IsFor 0) task
-
-for-sized : (size has : ℕ) (body : ReplyBody) → IsFor 0 body → TellsFor 0 (sized size has body)
-for-sized size has body is = so-if _ _ _ (so-give _ (refl, refl)) (so-if _ _ _ (so-fail _) (so-give body is))
-
-for-take_directory_if : (uid node : ℕ) (may : Bool) → TellsFor 0 (take_directory_if uid node may)
-for-take_directory_if uid node false = so-fail _
-for-take_directory_if uid node true = so-after _ (λ handle. so-after _ (λ opened. so-kept _ (λ s. (refl, refl))))
-
-for-take_directory : (uid node : ℕ) → TellsFor 0 (take_directory uid node)
-unfolding take_directory
-for-take_directory uid node = so-after _ (for-take_directory_if uid node)
-
-for-read_directory : (node : ℕ) (extent : _) → TellsFor 0 (read_directory node extent)
-unfolding read_directory
-for-read_directory node extent = so-after _ (λ names. so-give _ (refl, refl))
-
-for-read_directory_plus : (nobody : Bool) (node : ℕ) (extent : _) → TellsFor 0 (read_directory_plus nobody node extent)
-unfolding read_directory_plus
-for-read_directory_plus nobody node extent = so-after _ (λ place. so-after _ (λ names. so-after _ (λ found. so-give _ (refl, refl))))
-
-for-close_directory : (handle : ℕ) → TellsFor 0 (close_directory handle)
-unfolding close_directory
-for-close_directory handle = so-after _ (λ gone. so-give _ (refl, refl))
-
-for-sync_all : TellsFor 0 sync_all
-unfolding sync_all
-for-sync_all = so-after _ (λ done. so-give _ (refl, refl))
-
-for-end : TellsFor 0 end
-unfolding end
-for-end = so-after _ (λ ended. for-sync_all)
-
-for-count_space : TellsFor 0 count_space
-unfolding count_space
-for-count_space = so-after _ (λ reply. so-after _ (λ free. so-kept _ (λ s. (refl, refl))))
-
-for-begin : (offer : _) → TellsFor 0 (begin offer)
-unfolding begin
-for-begin offer =
-    so-if _ _ _ (so-fail _) (so-if _ _ _ (so-give _ (refl, refl))
-    (so-after _ (λ server_process. so-after _ (λ begun. so-after _ (λ agreed. so-kept _ (λ s. (refl, refl)))))))
-
-for-set_acl : (r : Asked) (which : _) (acl : Option AccessList) → TellsFor 0 (set_acl r which acl)
-for-set_acl r which acl =
-    so-after _ (λ n. so-after _ (λ kind. so-after _ (λ may. so-after _ (λ pid. so-after _ (λ list. so-after _ (λ set. so-after _ (λ changed. so-give _ (refl, refl))))))))
-
-for-tell_attributes : (status : Status) → TellsFor 0 (tell_attributes status)
-for-tell_attributes status = so-after _ (λ stamps. so-kept _ (λ s. (refl, refl)))
-
-plain-plan : (r : Asked) (value : Option (Option AccessList)) (operation : Operation) → names_an_object operation ≡ false → IfTellsNone (plan_of r value operation)
-plain-plan r value (Lookup name) is = absurd (cc)
-plain-plan r value (Forget count) is = tt
-plain-plan r value GetAttr is = so-after _ (λ n. so-after _ (λ status. for-tell_attributes status))
-plain-plan r value (SetAttr changes) is =
-    so-after _ (λ n. so-after _ (λ pid. so-after _ (λ kind. so-after _ (λ changed. so-after _ (λ status. so-after _ (λ timed. for-tell_attributes status))))))
-plain-plan r value ReadLink is = so-after _ (λ n. so-after _ (λ reply. so-after _ (λ target. so-give _ (refl, refl))))
-plain-plan r value (SymLink name target) is = absurd (cc)
-plain-plan r value (MkNod name mode umask) is = absurd (cc)
-plain-plan r value (MkDir name mode umask) is = absurd (cc)
-plain-plan r value (Unlink name) is = so-after _ (λ who. so-after _ (λ done. so-after _ (λ gone. so-give _ (refl, refl))))
-plain-plan r value (RmDir name) is = so-after _ (λ who. so-after _ (λ done. so-after _ (λ gone. so-give _ (refl, refl))))
-plain-plan r value (Rename name new_directory new_name flags) is =
-    so-after _ (λ may. so-after _ (λ d. so-after _ (λ new. so-after _ (λ pid. so-after _ (λ free. so-after _ (λ done. so-after _ (λ moved. so-give _ (refl, refl))))))))
-plain-plan r value (Link node name) is =
-    so-after _ (λ d. so-after _ (λ n. so-after _ (λ pid. so-after _ (λ linked. so-after _ (λ kind. so-after _ (λ noted. so-after _ (λ status. so-after _ (λ stamps.
-    so-after _ (λ counted. so-kept _ (λ s. (refl, refl)))))))))))
-plain-plan r value (Open flags) is =
-    so-after _ (λ n. so-after _ (λ mode. so-after _ (λ pid. so-after _ (λ asked. so-after _ (λ handle. so-kept _ (λ s. (refl, refl)))))))
-plain-plan r value (Read extent) is = so-after _ (λ sought. so-after _ (λ bytes. so-give _ (refl, refl)))
-plain-plan r value (Write handle offset bytes) is = so-after _ (λ n. so-after _ (λ count. so-after _ (λ touched. so-give _ (refl, refl))))
-plain-plan r value StatFs is = for-count_space
-plain-plan r value (Release handle) is = so-after _ (λ closed. so-after _ (λ gone. so-give _ (refl, refl)))
-plain-plan r value (FSync handle) is = so-after _ (λ n. so-after _ (λ done. so-give _ (refl, refl)))
-plain-plan r value (SetXAttr name bytes) is = so-after _ (λ which. so-after _ (λ acl. for-set_acl r which acl))
-plain-plan r value (GetXAttr name size) is = so-after _ (λ which. so-after _ (λ n. so-after _ (λ found. so-after _ (λ acl. for-sized size _ _ (refl, refl)))))
-plain-plan r value (ListXAttr size) is = so-after _ (λ n. so-after _ (λ has. so-after _ (λ names. for-sized size _ _ (refl, refl))))
-plain-plan r value (RemoveXAttr name) is = so-after _ (λ which. for-set_acl r which None)
-plain-plan r value (Init offer) is = for-begin offer
-plain-plan r value OpenDir is = so-after _ (λ n. so-after _ (λ cred. so-after _ (λ placed. so-after _ (λ may. for-take_directory cred.uid r.node))))
-plain-plan r value (ReadDir extent) is = for-read_directory r.node extent
-plain-plan r value (ReadDirPlus extent) is = for-read_directory_plus r.needs_nobody r.node extent
-plain-plan r value (ReleaseDir handle) is = for-close_directory handle
-plain-plan r value FSyncDir is = for-sync_all
-plain-plan r value (Access mask) is = so-after _ (λ n. so-after _ (λ kind. so-after _ (λ may. so-give _ (refl, refl))))
-plain-plan r value (Create name flags mode umask) is = absurd (cc)
-plain-plan r value Interrupt is = tt
-plain-plan r value Destroy is = for-end
-plain-plan r value (BatchForget batch) is = tt
-plain-plan r value SyncFs is = for-sync_all
-plain-plan r value Unknown is = so-fail _
-
--- ---- work that asks nothing
-
--- a piece of work changes nothing, and F holds of its value
-abbrev OnceAt : {X : Type 0} → (X → Type 0) → Server → Plan (Result X RequestError × Server) → Type 0
-OnceAt F s (Finish (Ok x, t)) = F x × (t ≡ s)
-OnceAt F s (Finish (Err e, t)) = t ≡ s
-OnceAt F s (Ask e next) = ⊥
-
-record GivenOnce {X Y : Type 0} (F : X → Type 0) (f : X → Work Y) (s t : Server) (es : List Event) (replies : List Reply) (y : Y) : Type 0 where
-  value : X
-  holds : F value
-  runs : EndsWell (f value s) es replies y t
-
-once-given : {X Y : Type 0} (F : X → Type 0) (p : Plan (Result X RequestError × Server)) (f : X → Work Y) (s t : Server) (es : List Event) (replies : List Reply) (y : Y)
-    → OnceAt F s p → EndsWell (followed_by p (goes_on f)) es replies y t → GivenOnce F f s t es replies y
-once-given F (Finish (Ok x, u)) f s t es replies y once runs =
-    record { value = x; holds = once.0; runs = subst (λ v. EndsWell (f x v) es replies y t) once.1 runs }
-once-given F (Finish (Err e, u)) f s t es replies y once runs = absurd (fails_not_well e y u t es replies runs)
-once-given F (Ask e next) f s t es replies y once runs = elim once [ ]
-
-once-then : {X Y : Type 0} (F : X → Type 0) (G : Y → Type 0) (p : Plan (Result X RequestError × Server)) (f : X → Work Y) (s : Server) → OnceAt F s p
-    → ((x : X) → F x → OnceAt G s (f x s)) → OnceAt G s (followed_by p (goes_on f))
-once-then F G (Finish (Ok x, u)) f s once rest = subst (λ v. OnceAt G s (f x v)) (sym once.1) (rest x once.0)
-once-then F G (Finish (Err e, u)) f s once rest = once
-once-then F G (Ask e next) f s once rest = elim once [ ]
-
-once-tried : {X Y : Type 0} (F : X → Type 0) (G : Y → Type 0) (p : Plan (Result X RequestError × Server)) (f : Result X RequestError → Work Y) (s : Server) → OnceAt F s p
-    → ((x : X) → F x → OnceAt G s (f (Ok x) s)) → ((e : RequestError) → OnceAt G s (f (Err e) s))
-    → OnceAt G s (followed_by (followed_by p (λ r. Finish (Ok r.0, r.1))) (goes_on f))
-once-tried F G (Finish (Ok x, u)) f s once ok err = subst (λ v. OnceAt G s (f (Ok x) v)) (sym once.1) (ok x once.0)
-once-tried F G (Finish (Err e, u)) f s once ok err = subst (λ v. OnceAt G s (f (Err e) v)) (sym once) (err e)
-once-tried F G (Ask e next) f s once ok err = elim once [ ]
-
-abbrev Anyhow : {X : Type 0} → X → Type 0
-Anyhow x = Unit {0}
-
-once-needed : {X : Type 0} (e : RequestError) (o : Option X) (s : Server) → OnceAt (λ x. o ≡ Some x) s (needed e o s)
-unfolding give fail
-once-needed e None s = refl
-once-needed e (Some x) s = (refl, refl)
-
-once-plain_name : (name : List ℕ) (s : Server) → OnceAt (Anyhow {X = Unit {0}}) s (plain_name name s)
-unfolding give fail
-once-plain_name name s = choose _
-  where
-    choose : (b : Bool) → OnceAt (Anyhow {X = Unit {0}}) s ((if b then fail (failed EINVAL) else give tt) s)
-    choose true = refl
-    choose false = (tt, refl)
-
-abbrev IsOfNode : ℕ → Server → ℕ → Type 0
-IsOfNode node s n = number_of_node s node ≡ Some n
-
-once-the_number : (node : ℕ) (s : Server) → OnceAt (IsOfNode node s) s (the_number node s)
-unfolding the_number kept ◌>>=◌
-once-the_number node s = once-needed (Lacks ESTALE) (number_of_node s node) s
-
-once-or : (b : Bool) (n : ℕ) (e : RequestError) (F : ℕ → Type 0) (s : Server) → F n → OnceAt F s ((if b then give n else fail e) s)
-unfolding give fail
-once-or true n e F s is = (is, refl)
-once-or false n e F s is = refl
-
-once-directory_number : (node : ℕ) (s : Server) → OnceAt (IsOfNode node s) s (directory_number node s)
-unfolding directory_number kept ◌>>=◌
-once-directory_number node s =
-    once-then (IsOfNode node s) (IsOfNode node s) (the_number node s) _ s (once-the_number node s) (λ n is. once-or (is_known_directory _) n _ (IsOfNode node s) s is)
-
-once-standing_directory : (node : ℕ) (s : Server) → OnceAt (IsOfNode node s) s (standing_directory node s)
-unfolding standing_directory kept ◌>>=◌
-once-standing_directory node s =
-    once-then (IsOfNode node s) (IsOfNode node s) (directory_number node s) _ s (once-directory_number node s) (λ n is. once-or (has_dentry s n) n _ (IsOfNode node s) s is)
-
-once-directory_for : (node : ℕ) (name : List ℕ) (s : Server) → OnceAt (IsOfNode node s) s (directory_for node name s)
-unfolding ◌>>=◌
-once-directory_for node name s =
-    once-then (Anyhow {X = Unit {0}}) (IsOfNode node s) (plain_name name s) _ s (once-plain_name name s) (λ plain any. once-standing_directory node s)
-
-once-or_absent : (known : Result ℕ RequestError) (s : Server) → OnceAt (Anyhow {X = ℕ}) s (or_absent known s)
-unfolding give fail
-once-or_absent known s = by-or_absent (λ w. OnceAt (Anyhow {X = ℕ}) s (w s)) (λ n. (tt, refl)) (λ e. refl) known
-
-once-searched_directory : (node : ℕ) (name : List ℕ) (s : Server) → OnceAt (Anyhow {X = ℕ}) s (searched_directory node name s)
-unfolding attempt ◌>>=◌
-once-searched_directory node name s =
-    once-then (Anyhow {X = Unit {0}}) (Anyhow {X = ℕ}) (plain_name name s) _ s (once-plain_name name s) (λ plain any.
-    once-tried (IsOfNode node s) (Anyhow {X = ℕ}) (standing_directory node s) or_absent s (once-standing_directory node s) (λ n is. once-or_absent (Ok n) s) (λ e. once-or_absent (Err e) s))
-
-once-the_server_process : (s : Server) → OnceAt (λ pid. s.server_process ≡ Some pid) s (the_server_process s)
-unfolding the_server_process kept ◌>>=◌
-once-the_server_process s = once-needed unexpected s.server_process s
-
--- ---- a new name
-
-record Followed (d : ℕ) (s : Server) (es : List Event) (replies : List Reply) : Type 0 where
-  judges : s.settings.posix_acl ≡ true
-  afterwards : Server
-  runs : IsRunOf (list_hides d s) es replies (Ok false, afterwards)
+use Rattle.fuse_plans.specs.Nobody.{is_judged}
+use Rattle.fuse_plans.specs.Serving.{Replying, answered, response_of, request_plan}
+use Rattle.fuse_plans.specs.Laws.{names_an_object}
+use Rattle.fuse_plans.specs.KeepingLaws.{name_valid_in, MayKeepName, is_looked_up, is_new, NamesAreKeptWhereJudged, IsMissing, OnlyMissingNamesAreAbsent}
+use Rattle.fuse_plans.proofs.EachRun.{EachRun, each-run, each-weaker, each-any, each-all, each-itself, each-ends, each->>=, ended, asked-before, Ends}
+use Rattle.fuse_plans.proofs.Searches.{needs, numbered, in-directory, plain, plan_for, search_then, searches, is_absent, Explained, explained}
+use Rattle.fuse_plans.proofs.ToldNames.{EndsSo, so-after, IsFor, TellsFor, for-tell_made, for-create_by, plain-plan, IsThere, there-plan, SaysSo, all-planned, all-unjudged}
 
 positive : (n : ℕ) → 0 < n → n ≡ 0 → ⊥
 positive n lt is = omega (arith, lt, is)
 
--- what it was said of the list
-said_followed : (names valid : ℕ) (t : Server) (p : Plan (Result Bool RequestError × Server)) (es : List Event) (replies : List Reply) → 0 < valid
-    → EndsWell (followed_by (followed_by p (λ r. Finish (Ok r.0, r.1))) (goes_on (λ hides. give (unless_hidden names hides)))) es replies valid t
-    → (u : Server) × IsRunOf p es replies (Ok false, u)
-unfolding give
-said_followed names valid t (Finish (Ok false, u)) [] [] lt runs = (u, refl)
-said_followed names valid t (Finish (Ok false, u)) [] (reply ∷ replies) lt runs = elim runs [ ]
-said_followed names valid t (Finish (Ok false, u)) (e ∷ es) replies lt runs = elim runs [ ]
-said_followed names valid t (Finish (Ok true, u)) es replies lt runs =
-    let ends = finished (Ok 0, u) (Ok valid, t) es replies runs in
-    absurd (positive valid lt (ok_is valid 0 (ap (λ r. r.0) ends.2)))
-said_followed names valid t (Finish (Err e, u)) es replies lt runs =
-    let ends = finished (Ok 0, u) (Ok valid, t) es replies runs in
-    absurd (positive valid lt (ok_is valid 0 (ap (λ r. r.0) ends.2)))
-said_followed names valid t (Ask e next) [] replies lt runs = elim runs [ ]
-said_followed names valid t (Ask e next) (g ∷ es) [] lt runs = elim runs [ ]
-said_followed names valid t (Ask e next) (g ∷ es) (reply ∷ replies) lt runs =
-    let rest = said_followed names valid t (next reply) es replies lt runs.1 in
-    (rest.0, (runs.0, rest.1))
+-- ---- a new name
 
-first_true : (a b : Bool) → (a && b) ≡ true → a ≡ true
-first_true true b is = refl
-first_true false b is = is
+module _ (r : Request) (s : Server) where
+  -- the kernel judges, and it was found that it follows the list of the directory
+  record Followed (d : ℕ) (es : List Event) (replies : List Reply) : Type 0 where
+    judges : s.settings.posix_acl ≡ true
+    afterwards : Server
+    runs : IsRunOf (list_hides d s) es replies (Ok false, afterwards)
 
-seen_followed : (d valid : ℕ) (s t : Server) (es : List Event) (replies : List Reply) → 0 < valid → EndsWell (new_valid d s) es replies valid t → Followed d s es replies
-unfolding new_valid kept give attempt ◌>>=◌
-seen_followed d valid s t es replies lt runs = choose (keeps_names s.settings) refl runs
-  where
-    choose : (b : Bool) → keeps_names s.settings ≡ b → EndsWell (new_valid_if d s.settings.keeping.names b s) es replies valid t → Followed d s es replies
-    choose false is ran =
-        let ends = finished (Ok 0, s) (Ok valid, t) es replies ran in
-        absurd (positive valid lt (ok_is valid 0 (ap (λ r. r.0) ends.2)))
-    choose true is ran =
-        let said = said_followed s.settings.keeping.names valid t (list_hides d s) es replies lt ran in
-        record { judges = first_true _ _ is; afterwards = said.0; runs = said.1 }
+  abbrev ValidSeen : ℕ → List Event → List Reply → Ends ℕ → Type 0
+  ValidSeen d es replies (Ok valid, t) = 0 < valid → Followed d es replies
+  ValidSeen d es replies (Err e, t) = Unit {0}
 
--- with the first replies the list was seen
-data SeesList (r : Request) (s : Server) : List Event → List Reply → Type 0 where
-  sees : (d : ℕ) (t : Server) (first after : List Event) (replied rest : List Reply) → s.settings.posix_acl ≡ true → number_of_node s r.node ≡ Some d
-      → IsRunOf (list_hides d s) first replied (Ok false, t) → SeesList r s (first ++ after) (replied ++ rest)
+  not-valid : {d : ℕ} {es : List Event} {replies : List Reply} → 0 < 0 → Followed d es replies
+  not-valid lt = absurd (positive 0 lt refl)
 
-new_kept : (r : Request) (d : ℕ) (rest : ℕ → Work ReplyBody) (s t : Server) (es : List Event) (replies : List Reply) (body : ReplyBody)
-    → ((valid : ℕ) → TellsFor valid (rest valid)) → number_of_node s r.node ≡ Some d → 0 < name_valid_in body
-    → EndsWell ((new_valid d >>= rest) s) es replies body t → SeesList r s es replies
-unfolding ◌>>=◌
-new_kept r d rest s t es replies body tells of_node lt runs =
-    let parts = run-parts (new_valid d s) (goes_on rest) es replies (Ok body, t) runs in
-    subst (λ l. SeesList r s l replies) (sym parts.all_events)
-    (subst (λ l. SeesList r s (parts.first_events ++ parts.later_events) l) (sym parts.all_replies)
-    (ended parts.middle parts.first_events parts.later_events parts.first_replies parts.later_replies parts.first parts.later))
-  where
-    ended : (m : Result ℕ RequestError × Server) (first after : List Event) (replied others : List Reply) → IsRunOf (new_valid d s) first replied m
-        → EndsWell (goes_on rest m) after others body t → SeesList r s (first ++ after) (replied ++ others)
-    ended (Ok valid, u) first after replied others ran goes =
-        let is = so-run (rest valid) u t after others body (tells valid) goes in
-        let seen = seen_followed d valid s u first replied (subst (λ n. 0 < n) is.0 lt) ran in
-        sees d seen.afterwards first after replied others seen.judges of_node seen.runs
-    ended (Err e, u) first after replied others ran goes = absurd (fails_not_well e body u t after others goes)
+  -- it was asked of the list
+  list-seen : (d : ℕ) → keeps_names s.settings ≡ true → (es : List Event) (replies : List Reply) (q : Ends Bool) → IsRunOf (list_hides d s) es replies q
+      → ValidSeen d es replies (Ok (unless_hidden s.settings.keeping.names q.0), q.1)
+  list-seen d keeps es replies (Ok true, t) runs = not-valid
+  list-seen d keeps es replies (Ok false, t) runs =
+      λ lt. record { judges = and-first s.settings.posix_acl (not (s.settings.keeping.names == 0)) keeps; afterwards = t; runs = runs }
+  list-seen d keeps es replies (Err e, t) runs = not-valid
 
--- in the directory of the node
-in_directory : (r : Request) (name : List ℕ) (rest : ℕ → ℕ → Work ReplyBody) (s t : Server) (es : List Event) (replies : List Reply) (body : ReplyBody)
-    → ((d valid : ℕ) → TellsFor valid (rest d valid)) → 0 < name_valid_in body
-    → EndsWell ((directory_for r.node name >>= (λ d. new_valid d >>= rest d)) s) es replies body t → SeesList r s es replies
-unfolding ◌>>=◌
-in_directory r name rest s t es replies body tells lt runs =
-    let given = once-given (IsOfNode r.node s) (directory_for r.node name s) (λ d. new_valid d >>= rest d) s t es replies body (once-directory_for r.node name s) runs in
-    new_kept r given.value (rest given.value) s t es replies body (tells given.value) given.holds lt given.runs
+  tried-seen : (d : ℕ) → keeps_names s.settings ≡ true
+      → EachRun (λ es replies q. EachRun (λ fs rest z. ValidSeen d (es ++ fs) (replies ++ rest) z) (goes_on (λ hides. give (unless_hidden s.settings.keeping.names hides)) q)) (attempt (list_hides d) s)
+  unfolding attempt give
+  tried-seen d keeps =
+      each-ends (λ es replies q. EachRun (λ fs rest z. ValidSeen d (es ++ fs) (replies ++ rest) z) (goes_on (λ hides. give (unless_hidden s.settings.keeping.names hides)) q))
+      (list_hides d s) (λ q. (Ok q.0, q.1))
+      (each-weaker (IsRunOf (list_hides d s)) (λ es replies q. ValidSeen d (es ++ []) (replies ++ []) (Ok (unless_hidden s.settings.keeping.names q.0), q.1)) (list_hides d s)
+      (each-itself (list_hides d s))
+      (λ es replies q runs. ended (ValidSeen d) es replies (Ok (unless_hidden s.settings.keeping.names q.0), q.1) (list-seen d keeps es replies q runs)))
 
-create_kept : (r : Request) (nobody : Bool) (name : List ℕ) (flags mode umask : ℕ) (s t : Server) (es : List Event) (replies : List Reply) (body : ReplyBody)
-    → 0 < name_valid_in body → EndsWell (create_file (asked_of r nobody) name flags mode umask s) es replies body t → SeesList r s es replies
-unfolding ◌>>=◌
-create_kept r nobody name flags file_mode umask s t es replies body lt runs =
-    let plain = once-given (Anyhow {X = Unit {0}}) (plain_name name s) _ s t es replies body (once-plain_name name s) runs in
-    let mode = once-given _ (needed (failed EINVAL) (mode_in flags) s) _ s t es replies body (once-needed _ (mode_in flags) s) plain.runs in
-    let given = once-given (IsOfNode r.node s) (standing_directory r.node s) _ s t es replies body (once-standing_directory r.node s) mode.runs in
-    new_kept r given.value (create_in (asked_of r nobody) name mode.value flags file_mode umask given.value) s t es replies body
-    (for-create_in (asked_of r nobody) name mode.value flags file_mode umask given.value) given.holds lt given.runs
-
-file_kept : (r : Request) (nobody : Bool) (name : List ℕ) (mode umask : ℕ) (s t : Server) (es : List Event) (replies : List Reply) (body : ReplyBody)
-    → 0 < name_valid_in body → EndsWell (make_file (asked_of r nobody) name mode umask s) es replies body t → SeesList r s es replies
-unfolding give fail ◌>>=◌
-file_kept r nobody name mode umask s t es replies body lt runs = choose (is_of_file mode) runs
-  where
-    choose : (b : Bool)
-        → EndsWell (((if b then give {X = Unit {0}} tt else fail (failed EPERM)) >>= (λ _. directory_for r.node name >>= (λ d. new_valid d >>= file_in (asked_of r nobody) name mode umask d))) s) es replies body t
-        → SeesList r s es replies
-    choose true ran =
-        in_directory r name (file_in (asked_of r nobody) name mode umask) s t es replies body (for-file_in (asked_of r nobody) name mode umask) lt ran
-    choose false ran = absurd (fails_not_well (failed EPERM) body s t es replies ran)
-
-abbrev Kept : Request → Server → List Event → List Reply → Type 0
-Kept r s es replies = (s.settings.posix_acl ≡ true) × MayKeepName r s es replies
-
--- where the machine was told the time before
-seen_kept : (r : Request) (s : Server) (es fs : List Event) (replies others : List Reply) → IsRunOf (tell_time r.now s) es replies (Ok tt, s)
-    → SeesList r s fs others → Kept r s (es ++ fs) (replies ++ others)
-unfolding ◌>>=◌
-seen_kept r s es fs replies others told (sees d t first after replied rest judges of_node ran) = (
-  judges,
-  subst (λ l. MayKeepName r s l (replies ++ (replied ++ rest))) (append_assoc es first after)
-      (subst (λ l. MayKeepName r s ((es ++ first) ++ after) l) (append_assoc replies replied rest)
-      (is_new d t (es ++ first) after (replies ++ replied) rest of_node
-      (run-followed_by (tell_time r.now s) (goes_on (λ _. list_hides d)) es first replies replied (Ok tt, s) (Ok false, t) told ran))),
-)
-
-told_kept : (r : Request) (w : Work ReplyBody) (s t : Server) (es : List Event) (replies : List Reply) (body : ReplyBody)
-    → ((fs : List Event) (others : List Reply) → EndsWell (w s) fs others body t → SeesList r s fs others)
-    → EndsWell ((tell_time r.now >> w) s) es replies body t → Kept r s es replies
-told_kept r w s t es replies body sees_list runs =
-    run-told (Kept r s) r.now w s t es replies body runs (λ first replied after rest told ran. seen_kept r s first after replied rest told (sees_list after rest ran))
-
--- ---- a name that is looked up
-
-unjudged : (d : ℕ) (name : List ℕ) (seen : Result Status RequestError) → TellsFor 0 (found_or_absent false d name seen)
-unjudged d name (Ok status) = so-after _ (λ stamps. so-after _ (λ noted. so-kept _ (λ s. (refl, refl))))
-unjudged d name (Err e) = so-after _ (λ settings. so-fail e)
-
-for-unjudged : (r : Asked) (name : List ℕ) → r.needs_nobody ≡ false → TellsFor 0 (find_name r name)
-for-unjudged r name is =
-    subst (λ b. TellsFor 0 (searched_directory r.node name >>= (λ d. (if r.needs_nobody then the_server_process else caller r.cred) >>= (λ pid. find_inside b pid d name)))) (sym is)
-    (so-after _ (λ d. so-after _ (λ pid. so-after _ (unjudged d name))))
-
-there-found : (d : ℕ) (name : List ℕ) (status : Status) → TellsSo IsThere (found_or_absent true d name (Ok status))
-there-found d name status = so-after _ (λ stamps. so-after _ (λ noted. so-kept _ (λ s. refl)))
-
-record SeenAbsent (p : Plan (Result Status RequestError × Server)) (es : List Event) (replies : List Reply) : Type 0 where
-  stopped : RequestError
-  afterwards : Server
-  for_absence : is_for ENOENT stopped ≡ true
-  runs : IsRunOf p es replies (Err stopped, afterwards)
-
-seen_absent : (d valid : ℕ) (name : List ℕ) (t : Server) (p : Plan (Result Status RequestError × Server)) (es : List Event) (replies : List Reply)
-    → EndsWell (followed_by (followed_by p (λ r. Finish (Ok r.0, r.1))) (goes_on (found_or_absent true d name))) es replies (Absent valid) t → SeenAbsent p es replies
-unfolding kept give fail ◌>>=◌
-seen_absent d valid name t (Finish (Ok status, u)) es replies runs =
-    absurd (let no : true ≡ false = so-run (found_or_absent true d name (Ok status)) u t es replies (Absent valid) (there-found d name status) runs in cc)
-seen_absent d valid name t (Finish (Err e, u)) es replies runs = choose (keeps_absent true u.settings e) refl runs
-  where
-    choose : (b : Bool) → keeps_absent true u.settings e ≡ b → EndsWell ((if b then give (Absent u.settings.keeping.absent) else fail e) u) es replies (Absent valid) t
-        → SeenAbsent (Finish (Err e, u)) es replies
-    choose true is ran =
-        let ends = finished (Ok (Absent u.settings.keeping.absent), u) (Ok (Absent valid), t) es replies ran in
-        record {
-          stopped = e;
-          afterwards = u;
-          for_absence = first_true _ _ is;
-          runs = subst (λ l. IsRunOf {X = Result Status RequestError × Server} (Finish (Err e, u)) l replies (Err e, u)) (sym ends.0)
-              (subst (λ l. IsRunOf {X = Result Status RequestError × Server} (Finish (Err e, u)) [] l (Err e, u)) (sym ends.1) refl);
-        }
-    choose false is ran = absurd (fails_not_well e (Absent valid) u t es replies ran)
-seen_absent d valid name t (Ask e next) [] replies runs = elim runs [ ]
-seen_absent d valid name t (Ask e next) (g ∷ es) [] runs = elim runs [ ]
-seen_absent d valid name t (Ask e next) (g ∷ es) (reply ∷ replies) runs =
-    let rest = seen_absent d valid name t (next reply) es replies runs.1 in
-    record { stopped = rest.stopped; afterwards = rest.afterwards; for_absence = rest.for_absence; runs = (runs.0, rest.runs) }
-
--- it was refused so in another run too
-refused_as : {pid : ℕ} {es fs : List Event} {replies rest : List Reply} (is : IsRefusedForAbsence pid es replies)
-    → IsAsked is.event (Refused is.refusal) is.after fs rest → IsRefusedForAbsence pid fs rest
-refused_as is asked = record { event = is.event; is_by = is.is_by; refusal = is.refusal; after = is.after; asked = asked; for_absence = is.for_absence }
-
-refused_reply : (reply : Reply) (r : Refusal) → refusal_in reply ≡ Some r → reply ≡ Refused r
-refused_reply (Refused q) r is = ap (λ (o : Option Refusal). Refused (unwrap_or o q)) is
-refused_reply _ r is = absurd (cc)
-
-abbrev error_in : {X : Type 0} → Result X RequestError → RequestError
-error_in (Ok x) = unexpected
-error_in (Err e) = e
-
-refused_at_once : (pid : ℕ) (e : Event) (g : Event) (es : List Event) (reply : Reply) (replies : List Reply) (r : Refusal) (stopped : RequestError) → IsDoneBy pid e → g ≡ e
-    → refusal_in reply ≡ Some r → stopped ≡ Refuses r → is_for ENOENT stopped ≡ true → IsRefusedForAbsence pid (g ∷ es) (reply ∷ replies)
-refused_at_once pid e g es reply replies r stopped by same is stops for = record {
-  event = e;
-  is_by = by;
-  refusal = r;
-  after = es;
-  asked = subst (λ f. IsAsked e (Refused r) es (f ∷ es) (reply ∷ replies)) (sym same)
-      (subst (λ q. IsAsked e (Refused r) es (e ∷ es) (q ∷ replies)) (sym (refused_reply reply r is)) (at_once replies));
-  for_absence = subst (λ x. is_for ENOENT x ≡ true) stops for;
-}
-
-shown_absent : (reply : Reply) (s t : Server) (es : List Event) (replies : List Reply) (e : RequestError) → is_for ENOENT e ≡ true
-    → IsRunOf (replied_status reply s) es replies (Err e, t) → ⊥
-unfolding give fail
-shown_absent reply s t es replies e for runs = choose (status_of_reply reply) runs
-  where
-    choose : (o : Option Status) → IsRunOf (needed unexpected o s) es replies (Err e, t) → ⊥
-    choose None ran =
-        let ends = finished (Err unexpected, s) (Err e, t) es replies ran in
-        let no : false ≡ true = subst (λ x. is_for ENOENT x ≡ true) (ap (λ r. error_in r.0) ends.2) for in
-        absurd (cc)
-    choose (Some status) ran =
-        let ends = finished (Ok status, s) (Err e, t) es replies ran in
-        absurd (let no : ◌≡◌ {A = Result Status RequestError} (Err e) (Ok status) = ap (λ r. r.0) ends.2 in cc)
-
-abbrev look_and_back : ℕ → List ℕ → Work Reply
-look_and_back pid name = ask (Calls pid (Lstat name)) >>= (λ reply. ask (Enter pid root root) >>= (λ _. unless_refused reply))
-
-looked_refused : (pid : ℕ) (name : List ℕ) (s t : Server) (es : List Event) (replies : List Reply) (e : RequestError) → is_for ENOENT e ≡ true
-    → IsRunOf (followed_by (look_and_back pid name s) (goes_on replied_status)) es replies (Err e, t) → IsRefusedForAbsence pid es replies
-unfolding ask give fail ◌>>=◌
-looked_refused pid name s t [] replies e for runs = elim runs [ ]
-looked_refused pid name s t (g ∷ es) [] e for runs = elim runs [ ]
-looked_refused pid name s t (g ∷ []) (reply ∷ replies) e for runs = elim runs.1 [ ]
-looked_refused pid name s t (g ∷ h ∷ es) (reply ∷ []) e for runs = elim runs.1 [ ]
-looked_refused pid name s t (g ∷ h ∷ es) (reply ∷ back ∷ replies) e for runs = choose (refusal_in reply) refl runs.1.1
-  where
-    choose : (o : Option Refusal) → refusal_in reply ≡ o → IsRunOf (followed_by (give_unless reply o s) (goes_on replied_status)) es replies (Err e, t)
-        → IsRefusedForAbsence pid (g ∷ h ∷ es) (reply ∷ back ∷ replies)
-    choose None is ran = absurd (shown_absent reply s t es replies e for ran)
-    choose (Some r) is ran =
-        let ends = finished (Err (Refuses r), s) (Err e, t) es replies ran in
-        refused_at_once pid (Calls pid (Lstat name)) g (h ∷ es) reply (back ∷ replies) r e refl runs.0 is (ap (λ q. error_in q.0) ends.2) for
-
-look_refused : (pid d : ℕ) (name : List ℕ) (s t : Server) (es : List Event) (replies : List Reply) (e : RequestError) → is_for ENOENT e ≡ true
-    → IsRunOf (look_inside pid d name s) es replies (Err e, t) → IsRefusedForAbsence pid es replies
-unfolding look_inside between ask give fail ◌>>=◌
-look_refused pid d name s t [] replies e for runs = elim runs [ ]
-look_refused pid d name s t (g ∷ es) [] e for runs = elim runs [ ]
-look_refused pid d name s t (g ∷ es) (first ∷ replies) e for runs = choose (refusal_in first) refl runs.1
-  where
-    choose : (o : Option Refusal) → refusal_in first ≡ o
-        → IsRunOf (followed_by (followed_by (give_unless first o s) (goes_on (λ _. look_and_back pid name))) (goes_on replied_status)) es replies (Err e, t)
-        → IsRefusedForAbsence pid (g ∷ es) (first ∷ replies)
-    choose None is ran =
-        let later_on = looked_refused pid name s t es replies e for ran in
-        refused_as later_on (later g first es replies later_on.asked)
-    choose (Some r) is ran =
-        let ends = finished (Err (Refuses r), s) (Err e, t) es replies ran in
-        refused_at_once pid (Enter pid d d) g es first replies r e refl runs.0 is (ap (λ q. error_in q.0) ends.2) for
-
-find_missing : (r : Asked) (name : List ℕ) (s t : Server) (valid : ℕ) (es : List Event) (replies : List Reply) → r.needs_nobody ≡ true
-    → EndsWell (find_name r name s) es replies (Absent valid) t → IsMissing s.server_process es replies
-unfolding attempt ◌>>=◌
-find_missing r name s t valid es replies nobody runs =
-    let ran =
-    subst (λ b. EndsWell ((searched_directory r.node name >>= (λ d. (if b then the_server_process else caller r.cred) >>= (λ pid. find_inside b pid d name))) s) es replies (Absent valid) t)
-    nobody runs in
-    let found = once-given (Anyhow {X = ℕ}) (searched_directory r.node name s) (λ d. the_server_process >>= (λ pid. find_inside true pid d name)) s t es replies (Absent valid)
-    (once-searched_directory r.node name s) ran in
-    let by = once-given (λ pid. s.server_process ≡ Some pid) (the_server_process s) (λ pid. find_inside true pid found.value name) s t es replies (Absent valid) (once-the_server_process s) found.runs in
-    let seen = seen_absent found.value valid name t (look_inside by.value found.value name s) es replies by.runs in
-    let refused = look_refused by.value found.value name s seen.afterwards es replies seen.stopped seen.for_absence seen.runs in
-    record { pid = by.value; own = by.holds; refused = refused }
-
--- ---- each request
-
-record Worked (w : Task) (s t : Server) (es : List Event) (replies : List Reply) (body : ReplyBody) : Type 0 where
-  work : Work ReplyBody
-  is : w ≡ Replying work
-  runs : EndsWell (work s) es replies body t
-
-worked : (memory : Bool) (w : Task) (s t : Server) (es : List Event) (replies : List Reply) (body : ReplyBody)
-    → IsRunOf {X = Response × Server} (answered memory w s) es replies (Says body, t) → Worked w s t es replies body
-worked true (Silently f) s t es replies body runs =
-    let ends = finished (Silence, f s) (Says body, t) es replies runs in
-    absurd (let no : Says body ≡ Silence = ap (λ q. q.0) ends.2 in cc)
-worked false (Silently f) s t es replies body runs =
-    let ends = finished (Silence, s) (Says body, t) es replies runs in
-    absurd (let no : Says body ≡ Silence = ap (λ q. q.0) ends.2 in cc)
-worked true (Replying w) s t es replies body runs = record { work = w; is = refl; runs = was_told (w s) body t es replies runs }
-worked false (Replying w) s t es replies body runs =
-    let ends = finished (Fails (failed ENOMEM), s) (Says body, t) es replies runs in
-    absurd (let no : Says body ≡ Fails (failed ENOMEM) = ap (λ q. q.0) ends.2 in cc)
-
--- of an answer that tells so
-told_so : (P : ReplyBody → Type 0) (task : Task) (s t : Server) (es : List Event) (replies : List Reply) (body : ReplyBody) → IfTellsSo P task
-    → Worked task s t es replies body → P body
-told_so P (Silently f) s t es replies body so done = absurd (let no : Silently f ≡ Replying done.work = done.is in cc)
-told_so P (Replying w) s t es replies body so done = so-run done.work s t es replies body (subst (λ o. IfTellsSo P o) done.is so) done.runs
-
--- the work that is there
-abbrev work_in : Work ReplyBody → Task → Work ReplyBody
-work_in w (Replying v) = v
-work_in w (Silently f) = w
-
-work_is : (w v : Work ReplyBody) (s t : Server) (es : List Event) (replies : List Reply) (body : ReplyBody) → Replying w ≡ Replying v → EndsWell (v s) es replies body t
-    → EndsWell (w s) es replies body t
-work_is w v s t es replies body is runs = subst (λ (o : Task). EndsWell (work_in w o s) es replies body t) (sym is) runs
-
-nothing_before : (r : Request) (s : Server) (b nobody : Bool) (first after : List Event) (replied rest : List Reply) → IsRunOf (Finish b) first replied nobody
-    → Kept r s after rest → Kept r s (first ++ after) (replied ++ rest)
-nothing_before r s b nobody first after replied rest ran kept_after =
-    let ends = finished b nobody first replied ran in
-    subst (λ l. Kept r s (l ++ after) (replied ++ rest)) (sym ends.0) (subst (λ l. Kept r s after (l ++ rest)) (sym ends.1) kept_after)
-
-module _ (r : Request) (s t : Server) (body : ReplyBody) (lt : 0 < name_valid_in body) where
-  looked_up_kept : (name : List ℕ) → r.operation ≡ Some (Lookup name) → (judges nobody : Bool) → s.settings.posix_acl ≡ judges → (first after : List Event) (replied rest : List Reply)
-      → IsRunOf (is_judged r.node judges s) first replied nobody → EndsWell (find_name (asked_of r nobody) name s) after rest body t
-      → Kept r s (first ++ after) (replied ++ rest)
-  looked_up_kept name asks true true is first after replied rest found ran = (is, is_looked_up name first after replied rest asks found)
-  looked_up_kept name asks false true is first after replied rest found ran =
-      absurd (let no : true ≡ false = (finished false true first replied found).2 in cc)
-  looked_up_kept name asks judges false is first after replied rest found ran =
-      absurd (positive _ lt (so-run (find_name (asked_of r false) name) s t after rest body (for-unjudged (asked_of r false) name refl) ran).0)
-
-  name_kept : (operation : Operation) → r.operation ≡ Some operation → names_an_object operation ≡ true → (nobody : Bool) (first after : List Event) (replied rest : List Reply)
-      → IsRunOf (needs_nobody r.node operation s) first replied nobody → Worked (told_first (says_change operation) r.now (plan_of (asked_of r nobody) r.value operation)) s t after rest body
-      → Kept r s (first ++ after) (replied ++ rest)
-  name_kept (Lookup name) asks is nobody first after replied rest found done =
-      looked_up_kept name asks s.settings.posix_acl nobody refl first after replied rest found (work_is _ _ s t after rest body done.is done.runs)
-  name_kept (SymLink name target) asks is nobody first after replied rest found done =
-      nothing_before r s _ nobody first after replied rest found
-      (told_kept r (make_link (asked_of r nobody) name target) s t after rest body
-      (λ fs others ran.
-      in_directory r name (λ d valid. caller r.cred >>= (λ pid. make_by r.now valid pid d (Symlink target name) name)) s t fs others body
-      (λ d valid. so-after _ (λ pid. for-make_by r.now valid pid d (Symlink target name) name)) lt ran)
-      (work_is _ _ s t after rest body done.is done.runs))
-  name_kept (MkNod name mode umask) asks is nobody first after replied rest found done =
-      nothing_before r s _ nobody first after replied rest found
-      (told_kept r (make_file (asked_of r nobody) name mode umask) s t after rest body
-      (λ fs others ran. file_kept r nobody name mode umask s t fs others body lt ran) (work_is _ _ s t after rest body done.is done.runs))
-  name_kept (MkDir name mode umask) asks is nobody first after replied rest found done =
-      nothing_before r s _ nobody first after replied rest found
-      (told_kept r (make_directory (asked_of r nobody) name mode umask) s t after rest body
-      (λ fs others ran.
-      in_directory r name (λ d valid. caller r.cred >>= (λ pid. make_masked r.now valid umask pid d (Mkdir name (bit_and mode 0o7777)) name)) s t fs others body
-      (λ d valid. so-after _ (λ pid. so-after _ (λ masked. for-make_by r.now valid pid d (Mkdir name (bit_and mode 0o7777)) name))) lt ran)
-      (work_is _ _ s t after rest body done.is done.runs))
-  name_kept (Create name flags mode umask) asks is nobody first after replied rest found done =
-      nothing_before r s _ nobody first after replied rest found
-      (told_kept r (create_file (asked_of r nobody) name flags.0 mode umask) s t after rest body
-      (λ fs others ran. create_kept r nobody name flags.0 mode umask s t fs others body lt ran) (work_is _ _ s t after rest body done.is done.runs))
-  name_kept _ asks is nobody first after replied rest found done = absurd (cc)
-
-  operation_kept : (operation : Option Operation) → r.operation ≡ operation → (who : WhoCounts) (first after : List Event) (replied rest : List Reply)
-      → IsRunOf (who_counts_in r.node r.uid operation s) first replied who → Worked (asked_for (asked_of r (is_nobody who)) r.value operation) s t after rest body
-      → Kept r s (first ++ after) (replied ++ rest)
-  operation_kept None asks who first after replied rest found done =
-      absurd (positive _ lt (told_so (IsFor 0) (Replying (fail (failed EINVAL))) s t after rest body (so-fail _) done).0)
-  operation_kept (Some operation) asks who first after replied rest found done = choose (names_an_object operation) refl
+  valid-seen : (d : ℕ) → EachRun (ValidSeen d) (new_valid d s)
+  unfolding new_valid kept give ◌>>=◌
+  valid-seen d = choose (keeps_names s.settings) refl
     where
-      choose : (b : Bool) → names_an_object operation ≡ b → Kept r s (first ++ after) (replied ++ rest)
-      choose true is =
-          name_kept operation asks is (is_nobody who) first after replied rest (found_nobody r.node r.uid operation s first replied who (names-unread operation is) found) done
-      choose false is =
-          absurd (positive _ lt (told_so (IsFor 0) _ s t after rest body
-          (so-told_first (IsFor 0) (says_change operation) r.now _ (plain-plan (asked_of r (is_nobody who)) r.value operation is)) done).0)
+      choose : (b : Bool) → keeps_names s.settings ≡ b → EachRun (ValidSeen d) (new_valid_if d s.settings.keeping.names b s)
+      choose false keeps = not-valid
+      choose true keeps = each->>= (ValidSeen d) (attempt (list_hides d)) (λ hides. give (unless_hidden s.settings.keeping.names hides)) s (tried-seen d keeps)
+
+  -- with the first replies the list was seen
+  data SeesList : List Event → List Reply → Type 0 where
+    sees : (d : ℕ) (t : Server) (first after : List Event) (replied rest : List Reply) → s.settings.posix_acl ≡ true → number_of_node s r.node ≡ Some d
+        → IsRunOf (list_hides d s) first replied (Ok false, t) → SeesList (first ++ after) (replied ++ rest)
+
+  abbrev SeesIn : List Event → List Reply → Ends ReplyBody → Type 0
+  SeesIn es replies (Ok body, t) = 0 < name_valid_in body → SeesList es replies
+  SeesIn es replies (Err e, t) = Unit {0}
+
+  new-sees : (d : ℕ) (rest : ℕ → Work ReplyBody) → number_of_node s r.node ≡ Some d → ((valid : ℕ) → TellsFor valid (rest valid))
+      → EachRun SeesIn ((new_valid d >>= rest) s)
+  new-sees d rest of_node tells =
+      each->>= SeesIn (new_valid d) rest s
+      (each-weaker (ValidSeen d) (λ es replies q. EachRun (λ fs others z. SeesIn (es ++ fs) (replies ++ others) z) (goes_on rest q)) (new_valid d s) (valid-seen d) go)
+    where
+      says : (es : List Event) (replies : List Reply) (valid : ℕ) → (0 < valid → Followed d es replies) → (fs : List Event) (others : List Reply) (z : Ends ReplyBody)
+          → EndsSo (IsFor valid) z → SeesIn (es ++ fs) (replies ++ others) z
+      says es replies valid seen fs others (Ok body, t) is =
+          λ lt. (let found = seen (subst (λ n. 0 < n) is.0 lt) in sees d found.afterwards es fs replies others found.judges of_node found.runs)
+      says es replies valid seen fs others (Err e, t) any = tt
+
+      go : (es : List Event) (replies : List Reply) (q : Ends ℕ) → ValidSeen d es replies q → EachRun (λ fs others z. SeesIn (es ++ fs) (replies ++ others) z) (goes_on rest q)
+      go es replies (Ok valid, u) seen =
+          each-all (EndsSo (IsFor valid)) (λ fs others z. SeesIn (es ++ fs) (replies ++ others) z) (rest valid u) ((tells valid).at u) (says es replies valid seen)
+      go es replies (Err e, u) seen = tt
+
+  -- ---- what may be kept
+
+  abbrev Kept : List Event → List Reply → Type 0
+  Kept es replies = IsTrue s.settings.posix_acl × MayKeepName r s es replies
+
+  abbrev KeptIn : List Event → List Reply → Response × Server → Type 0
+  KeptIn es replies (Silence, t) = Unit {0}
+  KeptIn es replies (Says body, t) = 0 < name_valid_in body → Kept es replies
+  KeptIn es replies (Fails e, t) = Unit {0}
+
+  abbrev KeptAt : List Event → List Reply → Ends ReplyBody → Type 0
+  KeptAt es replies q = KeptIn es replies (response_of q.0, q.1)
+
+  -- the machine is told the time first, where it keeps it
+  told-kept : (w : Work ReplyBody) → EachRun SeesIn (w s) → EachRun KeptAt ((tell_time r.now >> w) s)
+  unfolding tell_time kept give ask ◌>>=◌
+  told-kept w each = choose s.settings.keeps_times refl
+    where
+      at-once : s.settings.keeps_times ≡ false → {es : List Event} {replies : List Reply} → SeesList es replies → Kept es replies
+      at-once keeps (sees d t first after replied rest judges of_node runs) =
+          (judges, is_new d t first after replied rest of_node (subst (λ b. IsRunOf ((tell_time_if b r.now >> list_hides d) s) first replied (Ok false, t)) (sym keeps) runs))
+
+      once-told : s.settings.keeps_times ≡ true → (reply : Reply) {es : List Event} {replies : List Reply} → SeesList es replies
+          → Kept (Clock (stamp_of r.now) ∷ es) (reply ∷ replies)
+      once-told keeps reply (sees d t first after replied rest judges of_node runs) = (
+        judges,
+        is_new d t (Clock (stamp_of r.now) ∷ first) after (reply ∷ replied) rest of_node
+            (subst (λ b. IsRunOf ((tell_time_if b r.now >> list_hides d) s) (Clock (stamp_of r.now) ∷ first) (reply ∷ replied) (Ok false, t)) (sym keeps) (refl, runs)),
+      )
+
+      now : s.settings.keeps_times ≡ false → (es : List Event) (replies : List Reply) (q : Ends ReplyBody) → SeesIn es replies q → KeptAt es replies q
+      now keeps es replies (Ok body, t) seen = λ lt. at-once keeps (seen lt)
+      now keeps es replies (Err e, t) seen = tt
+
+      then_so : s.settings.keeps_times ≡ true → (reply : Reply) (es : List Event) (replies : List Reply) (q : Ends ReplyBody) → SeesIn es replies q
+          → KeptAt (Clock (stamp_of r.now) ∷ es) (reply ∷ replies) q
+      then_so keeps reply es replies (Ok body, t) seen = λ lt. once-told keeps reply (seen lt)
+      then_so keeps reply es replies (Err e, t) seen = tt
+
+      choose : (b : Bool) → s.settings.keeps_times ≡ b → EachRun KeptAt ((tell_time_if b r.now >> w) s)
+      choose false keeps = each-weaker SeesIn KeptAt (w s) each (now keeps)
+      choose true keeps = λ reply. each-weaker SeesIn (λ es replies q. KeptAt (Clock (stamp_of r.now) ∷ es) (reply ∷ replies) q) (w s) each (then_so keeps reply)
+
+  answered-kept : (memory : Bool) (w : Work ReplyBody) → EachRun SeesIn (w s) → EachRun KeptIn (answered memory (Replying (tell_time r.now >> w)) s)
+  answered-kept false w each = tt
+  answered-kept true w each = each-ends KeptIn ((tell_time r.now >> w) s) (λ q. (response_of q.0, q.1)) (told-kept w each)
+
+  -- ---- each request that makes a name
+
+  abbrev file_in : List ℕ → ℕ → ℕ → Work ReplyBody
+  file_in name mode umask = directory_for r.node name >>= (λ d. make_closed (asked_of r false) d (bit_and umask 0o777) (OpenCall name making (bit_and mode 0o777)))
+
+  file_in-sees : (name : List ℕ) (mode umask : ℕ) → EachRun SeesIn (file_in name mode umask s)
+  file_in-sees name mode umask =
+      in-directory SeesIn r.node name _ s
+      (λ d of_node. new-sees d _ of_node (λ valid. so-after _ (λ cred. so-after _ (λ reply. so-after _ (λ opened. so-after _ (λ closed. for-tell_made r.now valid d opened.1))))))
+      (λ e. tt)
+
+  file-sees : (name : List ℕ) (mode umask : ℕ) → EachRun SeesIn (make_file (asked_of r false) name mode umask s)
+  unfolding give fail ◌>>=◌
+  file-sees name mode umask = choose (is_of_file mode)
+    where
+      choose : (b : Bool) → EachRun SeesIn (((if b then give {X = Unit {0}} tt else fail (failed EPERM)) >>= (λ _. file_in name mode umask)) s)
+      choose true = file_in-sees name mode umask
+      choose false = tt
+
+  name-kept : (operation : Operation) → names_an_object operation ≡ true → ((name : List ℕ) → operation ≡ Lookup name → ⊥) → EachRun KeptIn (plan_for r (Some operation) s)
+  name-kept (Lookup name) is other = absurd (other name refl)
+  name-kept (SymLink name target) is other =
+      answered-kept r.memory (make_link (asked_of r false) name target)
+      (in-directory SeesIn r.node name _ s (λ d of_node. new-sees d _ of_node (λ valid. so-after _ (λ cred. so-after _ (λ reply. so-after _ (λ n. for-tell_made r.now valid d n))))) (λ e. tt))
+  name-kept (MkDir name mode umask) is other =
+      answered-kept r.memory (make_directory (asked_of r false) name mode umask)
+      (in-directory SeesIn r.node name _ s (λ d of_node. new-sees d _ of_node (λ valid. so-after _ (λ cred. so-after _ (λ reply. so-after _ (λ n. for-tell_made r.now valid d n))))) (λ e. tt))
+  name-kept (MkNod name mode umask) is other = answered-kept r.memory (make_file (asked_of r false) name mode umask) (file-sees name mode umask)
+  name-kept (Create name flags mode umask) is other =
+      answered-kept r.memory (create_file (asked_of r false) name flags.0 mode umask)
+      (plain SeesIn name _ s
+      (needs SeesIn (failed EINVAL) (mode_in flags.0) _ s
+      (λ way is_way. numbered SeesIn r.node _ s (λ d of_node. new-sees d _ of_node (λ valid. so-after _ (λ cred.
+      for-create_by r.now valid cred (bit_and umask 0o777) d name way flags.0 mode))) tt) tt) tt)
+  name-kept _ is other = absurd (cc)
+
+  -- ---- look-ups
+
+  none-kept : (name es : _) (replies : List Reply) → EachRun (λ fs rest q. KeptIn (es ++ fs) (replies ++ rest) q) (search_then r name s false)
+  none-kept name es replies = each-all (SaysSo (IsFor 0)) (λ fs rest q. KeptIn (es ++ fs) (replies ++ rest) q) (search_then r name s false) (all-unjudged r name s) none
+    where
+      none : (fs : List Event) (rest : List Reply) (q : Response × Server) → SaysSo (IsFor 0) q → KeptIn (es ++ fs) (replies ++ rest) q
+      none fs rest (Silence, t) any = tt
+      none fs rest (Says body, t) is = λ lt. absurd (positive (name_valid_in body) lt is.0)
+      none fs rest (Fails e, t) any = tt
+
+  searched-kept : (name : List ℕ) → r.operation ≡ Some (Lookup name) → EachRun KeptIn (plan_for r (Some (Lookup name)) s)
+  searched-kept name asked = searches KeptIn r name s (choose s.settings.posix_acl refl)
+    where
+      judged : s.settings.posix_acl ≡ true → (es : List Event) (replies : List Reply) → IsRunOf (is_judged r.node true s) es replies true
+          → (fs : List Event) (rest : List Reply) (q : Response × Server) → KeptIn (es ++ fs) (replies ++ rest) q
+      judged judges es replies runs fs rest (Silence, t) = tt
+      judged judges es replies runs fs rest (Says body, t) = λ lt. (judges, is_looked_up name es fs replies rest asked runs)
+      judged judges es replies runs fs rest (Fails e, t) = tt
+
+      go : s.settings.posix_acl ≡ true → (es : List Event) (replies : List Reply) (nobody : Bool) → IsRunOf (is_judged r.node true s) es replies nobody
+          → EachRun (λ fs rest q. KeptIn (es ++ fs) (replies ++ rest) q) (search_then r name s nobody)
+      go judges es replies true runs = each-any (λ fs rest q. KeptIn (es ++ fs) (replies ++ rest) q) (search_then r name s true) (judged judges es replies runs)
+      go judges es replies false runs = none-kept name es replies
+
+      choose : (b : Bool) → s.settings.posix_acl ≡ b
+          → EachRun (λ es replies nobody. EachRun (λ fs rest q. KeptIn (es ++ fs) (replies ++ rest) q) (search_then r name s nobody)) (is_judged r.node b s)
+      choose false judges = none-kept name [] []
+      choose true judges =
+          each-weaker (IsRunOf (is_judged r.node true s)) (λ es replies nobody. EachRun (λ fs rest q. KeptIn (es ++ fs) (replies ++ rest) q) (search_then r name s nobody))
+          (is_judged r.node true s) (each-itself (is_judged r.node true s)) (go judges)
+
+  -- ---- each request
+
+  plain-kept : (operation : Operation) → names_an_object operation ≡ false → EachRun KeptIn (plan_for r (Some operation) s)
+  plain-kept operation is =
+      each-all (SaysSo (IsFor 0)) KeptIn (plan_for r (Some operation) s)
+      (all-planned (IsFor 0) r operation s (λ nobody. plain-plan (asked_of r nobody) r.value operation is)) none
+    where
+      none : (es : List Event) (replies : List Reply) (q : Response × Server) → SaysSo (IsFor 0) q → KeptIn es replies q
+      none es replies (Silence, t) any = tt
+      none es replies (Says body, t) is = λ lt. absurd (positive (name_valid_in body) lt is.0)
+      none es replies (Fails e, t) any = tt
+
+  operation-kept : (operation : Operation) → r.operation ≡ Some operation → (b : Bool) → names_an_object operation ≡ b → EachRun KeptIn (plan_for r (Some operation) s)
+  operation-kept operation asked false is = plain-kept operation is
+  operation-kept (Lookup name) asked true is = searched-kept name asked
+  operation-kept operation asked true is = name-kept operation is (λ name same. cc)
+
+  request-kept : (o : Option Operation) → r.operation ≡ o → EachRun KeptIn (plan_for r o s)
+  unfolding fail
+  request-kept None asked = choose r.memory
+    where
+      choose : (memory : Bool) → EachRun KeptIn (answered memory (Replying (fail (failed EINVAL))) s)
+      choose true = tt
+      choose false = tt
+  request-kept (Some operation) asked = operation-kept operation asked (names_an_object operation) refl
 
 pub names_are_kept_where_judged : NamesAreKeptWhereJudged
 unfolding request_plan
 names_are_kept_where_judged r s t body es replies lt runs =
-    let parts = run-parts (who_counts_in r.node r.uid r.operation s) (λ who. answered_as (is_nobody who) r s) es replies (Says body, t) runs in
-    subst (λ l. Kept r s l replies) (sym parts.all_events)
-    (subst (λ l. Kept r s (parts.first_events ++ parts.later_events) l) (sym parts.all_replies)
-    (operation_kept r s t body lt r.operation refl parts.middle parts.first_events parts.later_events parts.first_replies parts.later_replies parts.first
-    (worked r.memory _ s t parts.later_events parts.later_replies body parts.later)))
+    each-run (KeptIn r s) (plan_for r r.operation s) es replies (Says body, t) (request-kept r s r.operation refl) runs lt
 
 -- ---- nothing has the name
 
-there-named : (r : Asked) (value : Option (Option AccessList)) (operation : Operation) → names_an_object operation ≡ true
-    → ((name : List ℕ) → operation ≡ Lookup name → ⊥) → IfTellsSo IsThere (plan_of r value operation)
-there-named r value (Lookup name) is other = absurd (other name refl)
-there-named r value (SymLink name target) is other =
-    so-after _ (λ d. so-after _ (λ valid. so-after _ (λ pid. so-weaker (λ body is_for. is_for.1) (for-make_by r.now valid pid d (Symlink target name) name))))
-there-named r value (MkNod name mode umask) is other =
-    so-after _ (λ file. so-after _ (λ d. so-after _ (λ valid. so-weaker (λ body is_for. is_for.1) (for-file_in r name mode umask d valid))))
-there-named r value (MkDir name mode umask) is other =
-    so-after _ (λ d. so-after _ (λ valid. so-after _ (λ pid. so-after _ (λ masked.
-    so-weaker (λ body is_for. is_for.1) (for-make_by r.now valid pid d (Mkdir name (bit_and mode 0o7777)) name)))))
-there-named r value (Create name flags mode umask) is other =
-    so-after _ (λ plain. so-after _ (λ way. so-after _ (λ d. so-after _ (λ valid.
-    so-weaker (λ body is_for. is_for.1) (for-create_in r name way flags.0 mode umask d valid)))))
-there-named r value _ is other = absurd (cc)
+missing-later : {X : Type 0} {fs : List Event} {rest : List Reply} (p : Plan X) (es : List Event) (replies : List Reply) (x : X) → IsRunOf p es replies x
+    → IsMissing fs rest → IsMissing (es ++ fs) (replies ++ rest)
+missing-later p es replies x runs is = record {
+  event = is.event;
+  is_by = is.is_by;
+  refusal = is.refusal;
+  after = is.after;
+  asked = asked-before p es replies x runs is.asked;
+  for_absence = is.for_absence;
+}
 
-missing_later : (server_process : Option ℕ) (p : Plan WhoCounts) (first after : List Event) (replied rest : List Reply) (who : WhoCounts) → IsRunOf p first replied who
-    → IsMissing server_process after rest → IsMissing server_process (first ++ after) (replied ++ rest)
-missing_later server_process p first after replied rest who ran m =
-    record { pid = m.pid; own = m.own; refused = refused_as m.refused (before p first replied who ran m.refused.asked) }
+abbrev MissingIn : List Event → List Reply → Response × Server → Type 0
+MissingIn es replies (Silence, t) = Unit {0}
+MissingIn es replies (Says body, t) = is_absent body ≡ true → IsMissing es replies
+MissingIn es replies (Fails e, t) = Unit {0}
 
-module _ (r : Request) (s t : Server) (valid : ℕ) where
-  never : IsThere (Absent valid) → ⊥
-  never is = absurd (let no : true ≡ false = is in cc)
+there-missing : (es : List Event) (replies : List Reply) (q : Response × Server) → SaysSo IsThere q → MissingIn es replies q
+there-missing es replies (Silence, t) any = tt
+there-missing es replies (Says body, t) is = λ absent. absurd (cc)
+there-missing es replies (Fails e, t) any = tt
 
-  look_up_missing : (name : List ℕ) (nobody : Bool) (after : List Event) (rest : List Reply)
-      → EndsWell (find_name (asked_of r nobody) name s) after rest (Absent valid) t → IsMissing s.server_process after rest
-  look_up_missing name true after rest ran = find_missing (asked_of r true) name s t valid after rest refl ran
-  look_up_missing name false after rest ran =
-      absurd (never (so-run (find_name (asked_of r false) name) s t after rest (Absent valid) (for-unjudged (asked_of r false) name refl) ran).1)
+for-missing : (es : List Event) (replies : List Reply) (q : Response × Server) → SaysSo (IsFor 0) q → MissingIn es replies q
+for-missing es replies (Silence, t) any = tt
+for-missing es replies (Says body, t) is = there-missing es replies (Says body, t) is.1
+for-missing es replies (Fails e, t) any = tt
 
-  named_missing : (operation : Operation) → names_an_object operation ≡ true → (nobody : Bool) (after : List Event) (rest : List Reply)
-      → Worked (told_first (says_change operation) r.now (plan_of (asked_of r nobody) r.value operation)) s t after rest (Absent valid) → IsMissing s.server_process after rest
-  named_missing (Lookup name) is nobody after rest done = look_up_missing name nobody after rest (work_is _ _ s t after rest (Absent valid) done.is done.runs)
-  named_missing operation is nobody after rest done =
-      absurd (never (told_so IsThere (told_first (says_change operation) r.now (plan_of (asked_of r nobody) r.value operation)) s t after rest (Absent valid)
-      (so-told_first IsThere (says_change operation) r.now (plan_of (asked_of r nobody) r.value operation) (there-named (asked_of r nobody) r.value operation is (λ name same. cc))) done))
-
-  operation_missing : (operation : Option Operation) (nobody : Bool) (after : List Event) (rest : List Reply)
-      → Worked (asked_for (asked_of r nobody) r.value operation) s t after rest (Absent valid) → IsMissing s.server_process after rest
-  operation_missing None nobody after rest done = absurd (never (told_so (IsFor 0) (Replying (fail (failed EINVAL))) s t after rest (Absent valid) (so-fail _) done).1)
-  operation_missing (Some operation) nobody after rest done = choose (names_an_object operation) refl
+module _ (r : Request) (s : Server) where
+  found-missing : (name : List ℕ) (memory : Bool) → EachRun MissingIn (answered memory (Replying (find_name (asked_of r true) name)) s)
+  found-missing name false = tt
+  found-missing name true =
+      each-ends MissingIn (find_name (asked_of r true) name s) (λ q. (response_of q.0, q.1))
+      (each-weaker Explained (λ es replies q. MissingIn es replies (response_of q.0, q.1)) (find_name (asked_of r true) name s) (explained r name s) so)
     where
-      choose : (b : Bool) → names_an_object operation ≡ b → IsMissing s.server_process after rest
-      choose true is = named_missing operation is nobody after rest done
-      choose false is = absurd (never (told_so (IsFor 0) _ s t after rest (Absent valid)
-          (so-told_first (IsFor 0) (says_change operation) r.now _ (plain-plan (asked_of r nobody) r.value operation is)) done).1)
+      so : (es : List Event) (replies : List Reply) (q : Ends ReplyBody) → Explained es replies q → MissingIn es replies (response_of q.0, q.1)
+      so es replies (Ok body, t) why = λ is. (let was = why is in
+          record { event = was.event; is_by = was.is_by; refusal = was.refusal; after = was.after; asked = was.asked; for_absence = was.for_it })
+      so es replies (Err e, t) why = tt
+
+  searched-missing : (name : List ℕ) → EachRun MissingIn (plan_for r (Some (Lookup name)) s)
+  searched-missing name =
+      searches MissingIn r name s
+      (each-weaker (IsRunOf (is_judged r.node s.settings.posix_acl s)) (λ es replies nobody. EachRun (λ fs rest q. MissingIn (es ++ fs) (replies ++ rest) q) (search_then r name s nobody))
+      (is_judged r.node s.settings.posix_acl s) (each-itself (is_judged r.node s.settings.posix_acl s)) go)
+    where
+      later_on : (es : List Event) (replies : List Reply) → IsRunOf (is_judged r.node s.settings.posix_acl s) es replies true
+          → (fs : List Event) (rest : List Reply) (q : Response × Server) → MissingIn fs rest q → MissingIn (es ++ fs) (replies ++ rest) q
+      later_on es replies runs fs rest (Silence, t) missing = tt
+      later_on es replies runs fs rest (Says body, t) missing = λ is. missing-later (is_judged r.node s.settings.posix_acl s) es replies true runs (missing is)
+      later_on es replies runs fs rest (Fails e, t) missing = tt
+
+      go : (es : List Event) (replies : List Reply) (nobody : Bool) → IsRunOf (is_judged r.node s.settings.posix_acl s) es replies nobody
+          → EachRun (λ fs rest q. MissingIn (es ++ fs) (replies ++ rest) q) (search_then r name s nobody)
+      go es replies true runs =
+          each-weaker MissingIn (λ fs rest q. MissingIn (es ++ fs) (replies ++ rest) q) (search_then r name s true) (found-missing name r.memory) (later_on es replies runs)
+      go es replies false runs =
+          each-all (SaysSo (IsFor 0)) (λ fs rest q. MissingIn (es ++ fs) (replies ++ rest) q) (search_then r name s false) (all-unjudged r name s)
+          (λ fs rest q is. for-missing (es ++ fs) (replies ++ rest) q is)
+
+  operation-missing : (operation : Operation) (b : Bool) → names_an_object operation ≡ b → EachRun MissingIn (plan_for r (Some operation) s)
+  operation-missing operation false is =
+      each-all (SaysSo (IsFor 0)) MissingIn (plan_for r (Some operation) s)
+      (all-planned (IsFor 0) r operation s (λ nobody. plain-plan (asked_of r nobody) r.value operation is)) for-missing
+  operation-missing (Lookup name) true is = searched-missing name
+  operation-missing operation true is =
+      each-all (SaysSo IsThere) MissingIn (plan_for r (Some operation) s)
+      (all-planned IsThere r operation s (λ nobody. there-plan (asked_of r nobody) r.value operation is (λ name same. cc))) there-missing
+
+  request-missing : (o : Option Operation) → EachRun MissingIn (plan_for r o s)
+  unfolding fail
+  request-missing None = choose r.memory
+    where
+      choose : (memory : Bool) → EachRun MissingIn (answered memory (Replying (fail (failed EINVAL))) s)
+      choose true = tt
+      choose false = tt
+  request-missing (Some operation) = operation-missing operation (names_an_object operation) refl
 
 pub only_missing_names_are_absent : OnlyMissingNamesAreAbsent
 unfolding request_plan
 only_missing_names_are_absent r s t valid es replies runs =
-    let parts = run-parts (who_counts_in r.node r.uid r.operation s) (λ who. answered_as (is_nobody who) r s) es replies (Says (Absent valid), t) runs in
-    subst (λ l. IsMissing s.server_process l replies) (sym parts.all_events)
-    (subst (λ l. IsMissing s.server_process (parts.first_events ++ parts.later_events) l) (sym parts.all_replies)
-    (missing_later s.server_process (who_counts_in r.node r.uid r.operation s) parts.first_events parts.later_events parts.first_replies parts.later_replies parts.middle parts.first
-    (operation_missing r s t valid r.operation (is_nobody parts.middle) parts.later_events parts.later_replies
-    (worked r.memory _ s t parts.later_events parts.later_replies (Absent valid) parts.later))))
+    each-run MissingIn (plan_for r r.operation s) es replies (Says (Absent valid), t) (request-missing r s r.operation) runs refl

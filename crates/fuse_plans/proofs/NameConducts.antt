@@ -1,255 +1,221 @@
--- How requests for names behave.
-use Rattle.std.specs.Prelude.{◌≡◌, ℕ, Bool, true, false, List, All, Option, None, Some, Result, Ok, Err, IsTrue, if◌then◌else◌}
-use Rattle.std.proofs.Common.{refl, sym, ap, subst, ◌∙◌}
-use Rattle.std.proofs.lemmas.List.Elements.{All-weaker}
-use Rattle.fs_cred.specs.declared.errno.Errno.TheVariants.{ENOENT}
+-- How requests for names behave: LOOKUP, SYMLINK, MKNOD, MKDIR, UNLINK, RMDIR, RENAME and LINK.
+--     does-plain_name, does-find_inside, does-new_valid        pieces that other requests have too
+--     names-as        who asks may call on a name that is given
+--     lasts-find_name, lasts-make_link, ..        the requests
+use Rattle.std.specs.Prelude.{◌≡◌, ℕ, Bool, true, false, List, Option, None, Some, Result, Ok, Err, IsTrue}
+use Rattle.std.proofs.Common.{refl, sym, ap, ◌∙◌}
+use Rattle.fs_cred.specs.Credentials.{Credential}
 use Rattle.fs_model.specs.declared.call.Call.{Call}
-use Rattle.fs_model.specs.declared.call.Call.TheVariants.{Lstat, Link as LinkCall}
-use Rattle.fs_model.specs.declared.reply.FileType.{FileType}
+use Rattle.fs_model.specs.declared.call.Call.TheVariants.{Lstat}
+use Rattle.fs_model.specs.declared.event.Actor.{Actor}
+use Rattle.fs_model.specs.declared.event.Event.TheVariants.{CallAt}
 use Rattle.fs_model.specs.declared.reply.Reply.{Reply}
-use Rattle.fs_model.specs.declared.reply.Stamps.{Stamps}
 use Rattle.fs_model.specs.declared.reply.Status.{Status}
-use Rattle.fuse_plans.specs.Plans.{KeepsTo}
-use Rattle.fuse_plans.specs.declared.request_error.RequestError.{RequestError}
-use Rattle.fuse_plans.specs.RequestErrors.{failed}
-use Rattle.fuse_plans.specs.declared.request.Asked.{Asked}
-use Rattle.fuse_plans.specs.declared.reply.ReplyBody.{ReplyBody}
 use Rattle.fuse_protocol.specs.declared.operation.Operation.TheVariants.{Rename, Link}
 use Rattle.fuse_protocol.specs.declared.reply.Time.{Time}
-use Rattle.fuse_state.specs.declared.dentry.Dentry.{Dentry}
-use Rattle.fuse_state.specs.Servers.{once_more, Server, dentries_of, number_named, kind_known, with_generation, with_dentry, without_name}
-use Rattle.fuse_state.specs.Changes.{is_gone, with_found, changed_if, removed, named_if, moved_to, moved, linked}
-use Rattle.fuse_state.proofs.StateLaws.{all_dentries_then}
-use Rattle.fuse_plans.specs.Acts.{Subject, given_name, node_of_object, IsGivenName, IsNewName, is_new, IsStandingDirectory, IsObject, IsKnownDentry, IsOfRequest, is_given, is_new_name, named_in, path_changed, ActsWithin, on_one, changes, moves, links, without_path}
-use Rattle.fuse_plans.specs.Conduct.{Known, Rights, conduct, Fits, stays}
-use Rattle.fuse_plans.specs.Works.{give, fail, kept, keep, ◌>>=◌, ◌>>◌}
-use Rattle.fuse_plans.specs.Callers.{caller, the_server_process, by_dentries}
-use Rattle.fuse_plans.specs.NamePlans.{dentry, plain_name, directory_for, tell_entry, found_or_absent, or_absent, new_valid, searched_directory, find_inside, find_name, made, directory_and_caller, make_link, make_directory, open_and_close, make_file, remove, none_there, may_move, rename, move_name, link_by_dentry, add_link}
-use Rattle.fuse_plans.proofs.Conducts.{Any, Still, SameOwn, LeftTo, Does, Lasts, DoesTo, Gives, does-give, does-fail, does-kept, does-keep, does-told_stamps, does->>=, does-attempt, does-lasts, lasts->>=, ends->>=, keep-lasts, then-lasts, then-does_to, does-does_to, attempt-does_to, gives-give}
-use Rattle.fuse_plans.proofs.Calls.{AsksOf, CanCall, ActsAt, does-obtain, does-between, does-done_between, does-by_dentries, known-dentries, does-look_within, does-look_inside, lasts-with_server_process, looks, does-look, is-object, gives-number, gives-standing_directory}
-use Rattle.fuse_plans.proofs.MaskConducts.{does-new_valid_of}
-use Rattle.fuse_plans.proofs.Chosen.{OfCaller, about-caller, gives-with, does-caller, does-caller_with_room}
-use Rattle.fuse_state.proofs.Holders.{holding_of}
-use Rattle.fuse_plans.proofs.Forms.{caller-can, does-if, does-replied_fd, ends-keep}
-use Rattle.fuse_plans.proofs.Leaving.{by-absent}
+use Rattle.fuse_state.specs.Servers.{Server, number_of_node}
+use Rattle.fuse_state.specs.Changes.{with_new_object, removed, moved, linked}
+use Rattle.fuse_plans.specs.declared.request_error.RequestError.{RequestError}
+use Rattle.fuse_plans.specs.declared.request_error.RequestError.TheVariants.{Lacks}
+use Rattle.fuse_plans.specs.declared.request_error.OtherErrno.TheVariants.{ESTALE}
+use Rattle.fuse_plans.specs.declared.request.Asked.{Asked}
+use Rattle.fuse_plans.specs.Callers.{server_credential, actor_at, actor_in}
+use Rattle.fuse_plans.specs.NamePlans.{plain_name, directory_for, tell_named, or_absent, searched_directory, found_or_absent, find_inside, searcher, find_name, new_valid_if, new_valid, tell_made, make_by, make_link, make_directory, make_closed, make_file, number_named_if, number_named, remove, none_there, nothing_to_replace, may_move, rename, move_name, link_as, add_link}
+use Rattle.fuse_plans.specs.Acts.{Subject, AskedBefore, given_name, IsObject, of_old_node, IsToldOf, IsGivenName, IsNewName, is_new, path_of, on_name, on_new_name, moves, links}
+use Rattle.fuse_plans.specs.Conduct.{Rights, only_looks, MayCall, as_who_asks, as_server, MayAsk}
+use Rattle.fuse_plans.proofs.Conducts.{Any, Still, SameAll, DoesTo, Does, Lasts, OkTo, gives, does-give, does-fail, does-kept, does-keep, does-if, does-weaker, then->>=, with->>=, does->>=, does-attempt, does-lasts, lasts-then, lasts-with, lasts->>=, keep-lasts}
+use Rattle.fuse_plans.proofs.Calls.{About, an_object, was_told, told-later, opened-told, may-close, does-ask, does-obtain, does-inside, does-look_inside, does-replied_opened, does-replied_number, does-look, does-list_hides, does-told_stamps, IsOwn, IsFor, own-object, gives-own, gives-number, gives-caller}
 
 -- ---- what the server keeps
 
-pub found-same : (p : Dentry) (n : ℕ) (kind : FileType) → SameOwn (with_found p n kind)
-found-same p n kind s = go (is_gone s n)
-  where
-    go : (b : Bool) → let t : Server = with_dentry p n kind (if b then with_generation n s else s) in (holding_of t ≡ holding_of s) × (t.server_process ≡ s.server_process)
-    go true = (refl, refl)
-    go false = (refl, refl)
+removed-same : (now : Time) (d : ℕ) (gone : Option ℕ) → SameAll (removed now d gone)
+removed-same now d None s = (refl, refl)
+removed-same now d (Some n) s = (refl, refl)
 
-changed_if-same : (now : Time) (o : Option ℕ) → SameOwn (changed_if now o)
-changed_if-same now None s = (refl, refl)
-changed_if-same now (Some n) s = (refl, refl)
+moved-same : (now : Time) (d new : ℕ) (object replaced : Option ℕ) → SameAll (moved now d new object replaced)
+moved-same now d new None None s = (refl, refl)
+moved-same now d new None (Some k) s = (refl, refl)
+moved-same now d new (Some n) None s = (refl, refl)
+moved-same now d new (Some n) (Some k) s = (refl, refl)
 
-removed-same : (now : Time) (p : Dentry) → SameOwn (removed now p)
-removed-same now p s = changed_if-same now (number_named s p) (without_name p s)
+-- ---- names
 
-named_if-same : (p : Dentry) (n : ℕ) (kind : Option FileType) → SameOwn (named_if p n kind)
-named_if-same p n None s = (refl, refl)
-named_if-same p n (Some kind) s = (refl, refl)
+-- in the directory of the node
+pub in-own : {r : Subject} {d : ℕ} (name : List ℕ) → given_name r.operation ≡ Some name → number_of_node r.start r.node ≡ Some d → IsGivenName r d name
+in-own name given own = record { is_name = given; directory = own }
 
-moved_to-same : (now : Time) (new : Dentry) (o : Option ℕ) → SameOwn (moved_to now new o)
-moved_to-same now new None s = (refl, refl)
-moved_to-same now new (Some n) s = named_if-same new n (kind_known s n) s
+-- who asks may call on a name that is given
+pub names-as : {rights : Rights} {past : AskedBefore} {d : ℕ} {name : List ℕ} (cred : Credential) (umask : ℕ) (call : Call) → rights.cred ≡ Some cred → path_of call ≡ Some name
+    → IsGivenName rights.subject d name → MayAsk rights past (CallAt (actor_at cred umask d d) call)
+names-as {d = d} {name = name} cred umask call who path is = (as_who_asks who, on_name d name (record { first = refl; second = refl }) is path)
 
-moved-same : (now : Time) (old new : Dentry) → SameOwn (moved now old new)
-moved-same now old new s =
-    let replaced = changed_if now (number_named s new) (without_name new s) in
-    let first = changed_if-same now (number_named s new) (without_name new s) in
-    let second = moved_to-same now new (number_named replaced old) (without_name old replaced) in
-    (second.0 ∙ first.0, second.1 ∙ first.1)
+-- and the server may look at it
+looks-named : {rights : Rights} {past : AskedBefore} {d : ℕ} {name : List ℕ} → IsGivenName rights.subject d name → MayAsk rights past (CallAt (actor_in server_credential d) (Lstat name))
+looks-named {d = d} {name = name} is = (as_server refl refl, on_name d name (record { first = refl; second = refl }) is refl)
 
-linked-same : (now : Time) (p : Dentry) (n : ℕ) (kind : Option FileType) → SameOwn (linked now p n kind)
-linked-same now p n kind s = named_if-same p n kind s
+looks-new : {rights : Rights} {past : AskedBefore} {d : ℕ} {name : List ℕ} → IsNewName rights.subject d name → MayAsk rights past (CallAt (actor_in server_credential d) (Lstat name))
+looks-new {d = d} {name = name} is = (as_server refl refl, on_new_name d name (record { first = refl; second = refl }) is refl)
 
-module _ {rights : Rights} {P : Server → Type 0} where
-  pub does-plain_name : (name : List ℕ) → Does rights P (plain_name name)
+module _ {rights : Rights} {P : Server → Type 0} {known : AskedBefore} where
+  pub does-plain_name : (name : List ℕ) → Does rights P known (plain_name name)
   does-plain_name name = does-if _ _ _ (does-fail _) (does-give tt)
 
-  does-tell_entry : (name_valid : ℕ) (status : Status) (stamps : Option Stamps) → Does rights P (tell_entry name_valid status stamps)
-  does-tell_entry name_valid status stamps = does-kept _
+  does-tell_named : (name_valid n : ℕ) → About rights known n → Does rights P known (tell_named name_valid n)
+  does-tell_named name_valid n about = does->>= (does-look n about) (λ status. does->>= (does-told_stamps _) (λ stamps. does-kept _))
 
-  -- what was found, made or opened is told, and no more is asked
-  tells-entry : (f : Server → Server) → SameOwn f → (body : Server → ReplyBody) → Lasts rights P (keep f >> kept body)
-  tells-entry f same body = ends->>= (ends-keep f same) (λ done. does-kept _)
+  -- a directory that is gone has no names
+  gives-or_absent : (found : Result ℕ RequestError) → OkTo (λ past. IsOwn rights) known found → DoesTo rights P known (λ past n. IsOwn rights n) (or_absent found)
+  gives-or_absent (Ok n) is = gives n (λ past more. is)
+  gives-or_absent (Err (Lacks ESTALE)) is = does-fail _
+  gives-or_absent _ is = does-fail _
 
-  lasts-found_or_absent : (nobody : Bool) (d : ℕ) (name : List ℕ) (seen : Result Status RequestError) → Lasts rights P (found_or_absent nobody d name seen)
-  lasts-found_or_absent nobody d name (Ok status) =
-      lasts->>= (does-told_stamps _) (λ stamps. tells-entry _ (found-same (dentry d name) status.ino status.kind) _)
-  lasts-found_or_absent nobody d name (Err e) = does-lasts (does->>= (does-kept _) (λ settings. does-if _ _ _ (does-give _) (does-fail _)))
+  -- ---- look-ups
 
-  pub lasts-find_within : (nobody : Bool) (pid d : ℕ) (name : List ℕ) → CanCall rights P pid (Lstat name) → ActsWithin rights.subject d d (Lstat name)
-      → Lasts rights P (find_inside nobody pid d name)
-  lasts-find_within nobody pid d name can act = lasts->>= (does-attempt (does-look_within pid d name can act)) (lasts-found_or_absent nobody d name)
+  does-found_or_absent : (nobody : Bool) (seen : Result Status RequestError) → Does rights P known (found_or_absent nobody seen)
+  does-found_or_absent nobody (Ok status) = does->>= (does-told_stamps _) (λ stamps. does-kept _)
+  does-found_or_absent nobody (Err e) = does->>= (does-kept _) (λ settings. does-if _ _ _ (does-give _) (does-fail _))
 
-  pub lasts-find_inside : (nobody : Bool) (pid d : ℕ) (name : List ℕ) → CanCall rights P pid (Lstat name) → IsOfRequest rights.subject (named_in d name)
-      → Lasts rights P (find_inside nobody pid d name)
-  lasts-find_inside nobody pid d name can is = lasts-find_within nobody pid d name can (on_one name refl refl is)
+  pub does-find_inside : (nobody : Bool) (cred : Credential) (d : ℕ) (name : List ℕ) → MayAsk rights known (CallAt (actor_in cred d) (Lstat name))
+      → Does rights P known (find_inside nobody cred d name)
+  does-find_inside nobody cred d name may = does->>= (does-attempt (does-look_inside cred d name may)) (does-found_or_absent nobody)
 
-  pub lasts-made : (now : Time) (name_valid d : ℕ) (name : List ℕ) → IsOfRequest rights.subject (named_in d name) → Lasts rights P (made now name_valid d name)
-  unfolding made
-  lasts-made now name_valid d name is =
-      lasts-with_server_process (λ pid server_process.
-      lasts->>= (does-look_inside pid d name (looks pid server_process (Lstat name) refl) is) (λ status.
-      lasts->>= (does-told_stamps _) (λ stamps. tells-entry _ (λ s. (refl, refl)) _)))
+  does-new_valid_if : (d name_valid : ℕ) (b : Bool) → About rights known d → Does rights P known (new_valid_if d name_valid b)
+  does-new_valid_if d name_valid false about = does-give _
+  does-new_valid_if d name_valid true about = does->>= (does-attempt (does-list_hides d about)) (λ hides. does-give _)
 
-  does-open_and_close : (pid d : ℕ) (call : Call) → ((any : Call) → IsTrue (stays any) → CanCall rights P pid any) → IsTrue (stays call) → ActsWithin rights.subject d d call
-      → Does rights P (open_and_close pid d call)
-  does-open_and_close pid d call can puts act =
-      does->>= (does-between pid d d call (can call puts) act) (λ reply.
-      does->>= (does-replied_fd reply) (λ fd.
-      does->>= (does-obtain pid _ (can _ refl) (without_path refl refl refl)) (λ closed. does-give tt)))
+  pub does-new_valid : (d : ℕ) → About rights known d → Does rights P known (new_valid d)
+  unfolding new_valid
+  does-new_valid d about = does->>= (does-kept _) (λ settings. does-new_valid_if d _ _ about)
 
-  does-may_move : (name new_name : List ℕ) (flags : ℕ) → Does rights P (may_move name new_name flags)
-  does-may_move name new_name flags =
-      does->>= (does-if _ _ _ (does-fail _) (does-give tt)) (λ known.
-      does->>= (does-plain_name name) (λ plain. does-plain_name new_name))
+  does-number_named_if : (keeps : Bool) (d : ℕ) (name : List ℕ) → MayAsk rights known (CallAt (actor_in server_credential d) (Lstat name))
+      → Does rights P known (number_named_if keeps d name)
+  does-number_named_if true d name may = does-give None
+  does-number_named_if false d name may = does->>= (does-attempt (does-look_inside server_credential d name may)) (λ seen. does-give _)
 
-  does-none_there : (there : Result Reply RequestError) → Does rights P (none_there there)
+  does-number_named : (d : ℕ) (name : List ℕ) → MayAsk rights known (CallAt (actor_in server_credential d) (Lstat name)) → Does rights P known (number_named d name)
+  unfolding number_named
+  does-number_named d name may = does->>= (does-kept _) (λ keeps. does-number_named_if keeps d name may)
+
+  does-none_there : (there : Result Reply RequestError) → Does rights P known (none_there there)
   does-none_there (Ok reply) = does-fail _
   does-none_there (Err e) = does-if _ _ _ (does-give tt) (does-fail e)
 
-  lasts-rename : (now : Time) (pid : ℕ) (old new : Dentry) → ((call : Call) → IsTrue (stays call) → CanCall rights P pid call)
-      → IsGivenName rights.subject old → IsNewName rights.subject new → Lasts rights P (rename now pid old new)
-  lasts-rename now pid old new can given renamed =
-      lasts->>= (does-done_between pid _ _ _ (can _ refl) (moves old.name new.name refl given renamed)) (λ done.
-      ends->>= (ends-keep _ (moved-same now old new)) (λ done. does-give _))
+  does-may_move : (name new_name : List ℕ) (flags : ℕ) → Does rights P known (may_move name new_name flags)
+  does-may_move name new_name flags =
+      does->>= (does-if _ _ _ (does-fail _) (does-give tt)) (λ alone.
+      does->>= (does-plain_name name) (λ plain. does-plain_name new_name))
 
--- ---- directories of names
+-- someone with the credential may look
+abbrev MayLook : Rights → Credential → Type 0
+MayLook rights c = (past : AskedBefore) (actor : Actor) (call : Call) → actor.cred ≡ c → IsTrue (only_looks call) → MayCall rights past actor call
 
--- a name that is given, in the directory of the node
-abbrev pub IsNameIn : Subject → List ℕ → ℕ → Type 0
-IsNameIn subject name d = IsGivenName subject (named_in d name)
+module _ {rights : Rights} (r : Asked) (of : IsFor rights r) where
+  gives-searcher : {P : Server → Type 0} {known : AskedBefore} → DoesTo rights P known (λ past c. MayLook rights c) (searcher r)
+  gives-searcher =
+      does-if _ _ _
+      (gives server_credential (λ past more now actor call is only. as_server is only))
+      (does-weaker (gives-caller _ of.cred) (λ past c who now actor call is only. as_who_asks (who ∙ ap Some (sym is))))
 
-pub given-in : (rights : Rights) (node : ℕ) → rights.subject.node ≡ node → (name : List ℕ) → given_name rights.subject.operation ≡ Some name
-    → (d : ℕ) → IsStandingDirectory rights.subject.start node d → IsNameIn rights.subject name d
-given-in rights node is name given d stands = record { name = given; directory = subst (λ k. IsStandingDirectory rights.subject.start k d) (sym is) stands }
+  module _ {known : AskedBefore} (name : List ℕ) (given : given_name rights.subject.operation ≡ Some name) where
+    gives-searched_directory : DoesTo rights (Still rights) known (λ past d. IsOwn rights d) (searched_directory r.node name)
+    gives-searched_directory =
+        does->>= (does-plain_name name) (λ plain.
+        then->>= (does-attempt (gives-own of)) (λ found now more is. does-weaker (gives-or_absent found is) (λ past n own. own)))
 
--- the new name of a rename, in the directory of the other node
-new-in : (rights : Rights) (name : List ℕ) (new_node : ℕ) (new_name : List ℕ) (flags : ℕ) → rights.subject.operation ≡ Some (Rename name new_node new_name flags)
-    → (d : ℕ) → IsStandingDirectory rights.subject.start new_node d → IsNewName rights.subject (named_in d new_name)
-new-in rights name new_node new_name flags asks d stands = is_new name new_node flags asks stands
+    gives-directory_for : DoesTo rights (Still rights) known (λ past d. IsOwn rights d) (directory_for r.node name)
+    gives-directory_for = does->>= (does-plain_name name) (λ plain. gives-own of)
 
-module _ {rights : Rights} (r : Asked) (node : rights.subject.node ≡ r.node) where
-  -- a directory that was removed has no names
-  stays-absent : (F : ℕ → Type 0) (e : RequestError) (known : Known) (s : Server) → Fits rights Any known s
-      → KeepsTo (conduct rights) (LeftTo rights (λ n. Still rights) F) known (or_absent (Err e) s)
-  unfolding fail
-  stays-absent F e known s fits = by-absent (λ w. KeepsTo (conduct rights) (LeftTo rights (λ n. Still rights) F) known (w s)) (λ other. fits) e
+  module _ {known : AskedBefore} (name : List ℕ) (given : given_name rights.subject.operation ≡ Some name) where
+    pub does-find_name : Does rights (Still rights) known (find_name r name)
+    does-find_name =
+        with->>= (gives-searched_directory name given) (λ d own.
+        with->>= gives-searcher (λ cred may.
+        does-find_inside r.needs_nobody cred d name
+        (may known (actor_in cred d) (Lstat name) refl refl, on_name d name (record { first = refl; second = refl }) (in-own name given own) refl)))
+    -- ---- what is made
 
-  gives-searched_directory : (name : List ℕ) → given_name rights.subject.operation ≡ Some name → Gives rights (IsNameIn rights.subject name) (searched_directory r.node name)
-  gives-searched_directory name given =
-      does-does_to (does-plain_name name) (λ plain.
-      attempt-does_to or_absent (gives-standing_directory r.node (given-in rights r.node node name given)) (λ d is. gives-give d is) (stays-absent (IsNameIn rights.subject name)))
+  lasts-tell_made : {known : AskedBefore} (now : Time) (name_valid d n : ℕ) → IsToldOf known n → Lasts rights (Still rights) known (tell_made now name_valid d n)
+  unfolding tell_made
+  lasts-tell_made now name_valid d n told =
+      keep-lasts {Q = Any} (with_new_object now d n) (λ s. refl) (λ s still. tt) (does-lasts (does-tell_named name_valid n (was_told told)))
 
-  gives-directory_for : (name : List ℕ) → given_name rights.subject.operation ≡ Some name → Gives rights (IsNameIn rights.subject name) (directory_for r.node name)
-  gives-directory_for name given = does-does_to (does-plain_name name) (λ plain. gives-standing_directory r.node (given-in rights r.node node name given))
+  module _ {known : AskedBefore} (name : List ℕ) (given : given_name rights.subject.operation ≡ Some name) where
+    lasts-make_by : (d umask : ℕ) (call : Call) → path_of call ≡ Some name → IsOwn rights d → Lasts rights (Still rights) known (make_by r d umask call)
+    lasts-make_by d umask call path own =
+        lasts->>= (does-new_valid d (own-object own)) (λ name_valid.
+        lasts-with (gives-caller _ of.cred) (λ cred who.
+        lasts-then (does-obtain _ (names-as cred umask call who path (in-own name given own))) (λ reply asked_then more asked.
+        lasts-then (does-replied_number _ reply asked) (λ n told_then again told. lasts-tell_made r.now name_valid d n told))))
 
--- where the object may be looked at once it has one more name
-abbrev Leads : Rights → ℕ → Server → Type 0
-Leads rights n s = All (IsOfRequest rights.subject) (dentries_of s n)
+    lasts-make_closed : (d umask : ℕ) (call : Call) → rights.handle ≡ None → path_of call ≡ Some name → IsOwn rights d → Lasts rights (Still rights) known (make_closed r d umask call)
+    lasts-make_closed d umask call alone path own =
+        lasts->>= (does-new_valid d (own-object own)) (λ name_valid.
+        lasts-with (gives-caller _ of.cred) (λ cred who.
+        lasts-then (does-obtain _ (names-as cred umask call who path (in-own name given own))) (λ reply asked_then more asked.
+        lasts-then (does-replied_opened _ reply asked) (λ opened told_then again is.
+        lasts-then (does-ask _ (may-close alone is)) (λ closed closed_then later was. lasts-tell_made r.now name_valid d opened.1 (told-later later (opened-told is)))))))
 
-module _ {rights : Rights} (r : Asked) (is : rights.cred ≡ r.cred) (node : rights.subject.node ≡ r.node) where
-  lasts-search : (judged nobody : Bool) (d : ℕ) (name : List ℕ) → IsNameIn rights.subject name d
-      → Lasts rights (Still rights) ((if nobody then the_server_process else caller r.cred) >>= (λ pid. find_inside judged pid d name))
-  lasts-search judged true d name in_it =
-      lasts-with_server_process (λ pid server_process. lasts-find_inside judged pid d name (looks pid server_process (Lstat name) refl) (is_given in_it))
-  lasts-search judged false d name in_it =
-      then-lasts (does-caller _ is) (λ pid more. lasts-find_inside judged pid d name (caller-can pid _ refl) (is_given in_it))
+  module _ {known : AskedBefore} (name : List ℕ) (given : given_name rights.subject.operation ≡ Some name) where
+    pub lasts-make_link : (target : List ℕ) → Lasts rights (Still rights) known (make_link r name target)
+    lasts-make_link target = lasts-with (gives-directory_for name given) (λ d own. lasts-make_by name given d _ _ refl own)
 
-  pub lasts-find_name : (name : List ℕ) → given_name rights.subject.operation ≡ Some name → Lasts rights (Still rights) (find_name r name)
-  lasts-find_name name given = then-lasts (gives-searched_directory r node name given) (λ d in_it. lasts-search r.needs_nobody r.needs_nobody d name in_it)
+    pub lasts-make_directory : (mode umask : ℕ) → Lasts rights (Still rights) known (make_directory r name mode umask)
+    lasts-make_directory mode umask = lasts-with (gives-directory_for name given) (λ d own. lasts-make_by name given d _ _ refl own)
 
-  does-directory_and_caller : (name : List ℕ) → given_name rights.subject.operation ≡ Some name
-      → DoesTo rights (λ (who : ℕ × ℕ). OfCaller rights who.1) (λ (who : ℕ × ℕ). IsNameIn rights.subject name who.0) (directory_and_caller r name)
-  does-directory_and_caller name given = then-does_to (gives-directory_for r node name given) (λ d in_it. gives-with (IsNameIn rights.subject name) d in_it (does-caller _ is))
+    pub lasts-make_file : (mode umask : ℕ) → rights.handle ≡ None → Lasts rights (Still rights) known (make_file r name mode umask)
+    lasts-make_file mode umask alone =
+        lasts->>= (does-if _ _ _ (does-give tt) (does-fail _)) (λ file.
+        lasts-with (gives-directory_for name given) (λ d own. lasts-make_closed name given d _ _ alone refl own))
 
-  -- where the directory is the object of the request
-  does-new_valid_in : AsksOf rights r.node → (name : List ℕ) (d : ℕ) → IsNameIn rights.subject name d → Does rights (Still rights) (new_valid d)
-  does-new_valid_in asks name d in_it =
-      does-new_valid_of rights r.node d asks (subst (λ k. IsStandingDirectory rights.subject.start k d) node in_it.directory)
+    -- ---- names that go
 
-  pub lasts-make_link : AsksOf rights r.node → (name target : List ℕ) → given_name rights.subject.operation ≡ Some name
-      → Lasts rights (Still rights) (make_link r name target)
-  lasts-make_link asks name target given =
-      then-lasts (gives-directory_for r node name given) (λ d in_it.
-      lasts->>= (does-new_valid_in asks name d in_it) (λ name_valid.
-      then-lasts (does-caller _ is) (λ pid more.
-      lasts->>= (does-done_between pid d d _ (caller-can pid _ refl) (changes name refl refl in_it)) (λ done.
-      lasts-made _ name_valid d name (is_given in_it)))))
+    pub does-remove : (call : List ℕ → Call) → path_of (call name) ≡ Some name → Does rights (Still rights) known (remove r call name)
+    does-remove call path =
+        with->>= (gives-directory_for name given) (λ d own.
+        with->>= (gives-caller _ of.cred) (λ cred who.
+        does->>= (does-number_named d name (looks-named (in-own name given own))) (λ gone.
+        does->>= (does-inside cred d _ (names-as cred 0 (call name) who path (in-own name given own))) (λ done.
+        does->>= (does-keep _ (removed-same r.now d gone)) (λ noted. does-give _)))))
 
-  pub lasts-make_directory : AsksOf rights r.node → (name : List ℕ) (mode umask : ℕ) → given_name rights.subject.operation ≡ Some name
-      → Lasts rights (Still rights) (make_directory r name mode umask)
-  lasts-make_directory asks name mode umask given =
-      then-lasts (gives-directory_for r node name given) (λ d in_it.
-      lasts->>= (does-new_valid_in asks name d in_it) (λ name_valid.
-      then-lasts (does-caller _ is) (λ pid more.
-      lasts->>= (does-obtain pid _ (caller-can pid _ refl) (without_path refl refl refl)) (λ old.
-      lasts->>= (does-done_between pid d d _ (caller-can pid _ refl) (changes name refl refl in_it)) (λ done.
-      lasts-made _ name_valid d name (is_given in_it))))))
+  -- ---- names that lead elsewhere
 
-  pub lasts-make_file : AsksOf rights r.node → (name : List ℕ) (mode umask : ℕ) → given_name rights.subject.operation ≡ Some name
-      → Lasts rights (Still rights) (make_file r name mode umask)
-  lasts-make_file asks name mode umask given =
-      lasts->>= (does-if _ _ _ (does-give tt) (does-fail _)) (λ file.
-      then-lasts (gives-directory_for r node name given) (λ d in_it.
-      lasts->>= (does-new_valid_in asks name d in_it) (λ name_valid.
-      then-lasts (does-caller_with_room _ is) (λ pid more.
-      lasts->>= (does-obtain pid _ (caller-can pid _ refl) (without_path refl refl refl)) (λ old.
-      lasts->>= (does-open_and_close pid d _ (caller-can pid) refl (changes name refl refl in_it)) (λ done.
-      lasts-made _ name_valid d name (is_given in_it)))))))
+  module _ {known : AskedBefore} where
+    does-nothing_to_replace : (flags : ℕ) (cred : Credential) (d : ℕ) (name : List ℕ) → rights.cred ≡ Some cred → IsNewName rights.subject d name
+        → Does rights (Still rights) known (nothing_to_replace flags cred d name)
+    does-nothing_to_replace flags cred d name who renamed =
+        does-if _ _ _ (does-give tt)
+        (does->>= (does-attempt (does-inside cred d _ (as_who_asks who, on_new_name d name (record { first = refl; second = refl }) renamed refl))) does-none_there)
 
-  pub lasts-remove : (call : List ℕ → Call) (name : List ℕ) → IsTrue (stays (call name)) → path_changed (call name) ≡ Some name
-      → given_name rights.subject.operation ≡ Some name → Lasts rights (Still rights) (remove r call name)
-  lasts-remove call name puts takes given =
-      then-lasts (does-directory_and_caller name given) (λ who in_it.
-      lasts->>= (does-done_between who.1 who.0 who.0 _ (caller-can who.1 _ puts) (changes name refl takes in_it)) (λ gone.
-      ends->>= (ends-keep _ (removed-same _ _)) (λ done. does-give _)))
+    does-rename : (cred : Credential) (d : ℕ) (name : List ℕ) (new : ℕ) (new_name : List ℕ) → rights.cred ≡ Some cred → IsGivenName rights.subject d name → IsNewName rights.subject new new_name
+        → Does rights (Still rights) known (rename r.now cred d name new new_name)
+    does-rename cred d name new new_name who given renamed =
+        does->>= (does-number_named d name (looks-named given)) (λ object.
+        does->>= (does-number_named new new_name (looks-new renamed)) (λ replaced.
+        does->>= (does-obtain _ (as_who_asks who, moves name new_name refl given renamed)) (λ done.
+        does->>= (does-keep _ (moved-same r.now d new object replaced)) (λ noted. does-give _))))
 
-  pub lasts-move_name : (name : List ℕ) (new_node : ℕ) (new_name : List ℕ) (flags : ℕ) → rights.subject.operation ≡ Some (Rename name new_node new_name flags)
-      → Lasts rights (Still rights) (move_name r name new_node new_name flags)
-  lasts-move_name name new_node new_name flags asks =
-      lasts->>= (does-may_move name new_name flags) (λ may.
-      then-lasts (gives-standing_directory _ (given-in rights r.node node name (ap given_name asks))) (λ d in_it.
-      then-lasts (gives-standing_directory _ (new-in rights name new_node new_name flags asks)) (λ new renamed.
-      then-lasts (does-caller _ is) (λ pid more.
-      lasts->>= (does-if _ _ _ (does-give tt) (does->>= (does-attempt (does-between pid new new _ (caller-can pid _ refl) (on_one new_name refl refl (is_new_name renamed)))) does-none_there)) (λ none.
-      lasts-rename _ pid _ _ (caller-can pid) in_it renamed)))))
+  module _ {known : AskedBefore} where
+    pub does-move_name : (name : List ℕ) (new_node : ℕ) (new_name : List ℕ) (flags : ℕ) → rights.subject.operation ≡ Some (Rename name new_node new_name flags)
+        → Does rights (Still rights) known (move_name r name new_node new_name flags)
+    does-move_name name new_node new_name flags asked =
+        does->>= (does-may_move name new_name flags) (λ may.
+        with->>= (gives-own of) (λ d own.
+        with->>= (gives-number new_node) (λ new was.
+        with->>= (gives-caller _ of.cred) (λ cred who.
+        does->>= (does-nothing_to_replace flags cred new new_name who (is_new name new_node flags asked was)) (λ none.
+        does-rename cred d name new new_name who (in-own name (ap given_name asked) own) (is_new name new_node flags asked was))))))
 
-  -- ---- one more name
+    -- ---- one more name
 
-  linked-leads : (now : Time) (pid d n : ℕ) (name : List ℕ) (kind : Option FileType) → IsObject rights.subject n → IsNameIn rights.subject name d
-      → (s : Server) → OfCaller rights pid s → Leads rights n (linked now (named_in d name) n kind s)
-  linked-leads now pid d n name None object in_it s of = (about-caller pid n object).dentries s of
-  linked-leads now pid d n name (Some kind) object in_it s of =
-      all_dentries_then (IsOfRequest rights.subject) s (named_in d name) n kind (is_given in_it) ((about-caller pid n object).dentries s of)
+    does-link_as : (n d : ℕ) (name : List ℕ) → IsObject rights.subject n → IsGivenName rights.subject d name → Does rights (Still rights) known (link_as r n d name)
+    does-link_as n d name object given =
+        with->>= (gives-caller _ of.cred) (λ cred who.
+        does->>= (does-obtain _ (as_who_asks who, links name refl object given)) (λ done.
+        does->>= (does-keep (linked r.now d n) (λ s. (refl, refl))) (λ noted. does-tell_named 0 n (an_object object))))
 
-  does-link_by_dentry : (pid n d : ℕ) (name : List ℕ) → IsObject rights.subject n → IsNameIn rights.subject name d
-      → Does rights (OfCaller rights pid) (link_by_dentry pid n d name)
-  unfolding link_by_dentry kept ◌>>=◌
-  does-link_by_dentry pid n d name object in_it = record { goes = λ known s fits. (by s fits.holds.still).goes known s fits }
-    where
-      linked_from : List ℕ → Call
-      linked_from old = LinkCall old name
-
-      by : (s : Server) → Still rights s → Does rights (OfCaller rights pid) (by_dentries pid (Some d) linked_from (failed ENOENT) (dentries_of s n) >>= (λ _. give {X = Unit {0}} tt))
-      by s still =
-          let act = All-weaker (IsKnownDentry rights.subject.start n) (ActsAt rights.subject (Some d) linked_from) (λ p is. links n p.name name refl object is in_it) (dentries_of s n) (known-dentries still n) in
-          does->>= (does-by_dentries pid (Some d) linked_from (failed ENOENT) (dentries_of s n) (λ path. caller-can pid _ refl) act) (λ reply. does-give tt)
-
-  pub lasts-add_link : (old_node : ℕ) (name : List ℕ) → rights.subject.operation ≡ Some (Link old_node name) → Lasts rights (Still rights) (add_link r old_node name)
-  lasts-add_link old_node name asks =
-      then-lasts (gives-directory_for r node name (ap given_name asks)) (λ d in_it.
-      then-lasts (gives-number old_node (is-object rights old_node (ap (λ o. node_of_object o rights.subject.node) asks))) (λ n object.
-      then-lasts (does-caller _ is) (λ pid more.
-      lasts->>= (does-link_by_dentry pid n d name object in_it) (λ done.
-      lasts->>= (does-kept _) (λ kind.
-      keep-lasts {Q = Leads rights n} (linked r.now (named_in d name) n kind) (linked-same r.now (named_in d name) n kind) (linked-leads r.now pid d n name kind object in_it)
-      (does-lasts (does->>= (does-look n (record { object = object; dentries = λ s leads. leads })) (λ status.
-      does->>= (does-told_stamps _) (λ stamps.
-      does->>= (does-keep (once_more status.ino) (λ s. (refl, refl)) (λ s leads. leads)) (λ counted. does-tell_entry 0 status stamps))))))))))
+  module _ {known : AskedBefore} where
+    pub does-add_link : (old_node : ℕ) (name : List ℕ) → rights.subject.operation ≡ Some (Link old_node name) → Does rights (Still rights) known (add_link r old_node name)
+    does-add_link old_node name asked =
+        with->>= (gives-directory_for name (ap given_name asked)) (λ d own.
+        with->>= (gives-number old_node) (λ n was.
+        does-link_as n d name (of_old_node old_node name asked was) (in-own name (ap given_name asked) own)))

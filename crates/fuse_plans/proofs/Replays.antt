@@ -1,8 +1,11 @@
--- Plans with the replies that a machine gave: what is asked, and what is answered in the end.
---     replayed        one plan
---     played        requests, one after another
---     user, flags, status, ..        words for events, replies and answers
-use Rattle.std.specs.Prelude.{ℕ, Bool, true, false, List, [], ◌∷◌, Result, Ok, Err, Option, None, Some}
+-- Whole requests, run: with the replies that are given, or on the abstract machine.
+--     replayed, played        one plan with given replies, and requests: what is asked, and what the kernel hears
+--     carried, carried_out        the same on the machine
+--     heard_from, heard        what the kernel hears of requests, from a state on, and from a new disk on
+--     counted_from        who counts of those who ask
+--     init, who, asks, ..        words for requests, events, replies and answers
+use Rattle.std.specs.Prelude.{ℕ, ◌+◌, ◌*◌, ◌^◌, Bool, true, false, List, [], ◌∷◌, Result, Ok, Err, Option, None, Some}
+use Rattle.std.specs.Hash.DefaultHasher.{initial, round, write_word, write_byte, write, finish}
 use Rattle.std.specs.List.{flat_map}
 use Rattle.posix_acl.specs.declared.entry.Perms.{Perms}
 use Rattle.posix_acl.specs.AccessList.{AccessList}
@@ -11,15 +14,28 @@ use Rattle.fs_cred.specs.declared.refusal.Refusal.TheVariants.{Failed}
 use Rattle.fs_cred.specs.declared.rule.Rule.TheVariants.{Other}
 use Rattle.fs_cred.specs.Capabilities.{all_caps}
 use Rattle.fs_cred.specs.Credentials.{usual_credential}
-use Rattle.fs_model.specs.declared.call.Flags.{Flags}
+use Rattle.fs_cred.specs.Verdicts.{verdict}
+use Rattle.fs_model.specs.declared.call.Call.{Call}
 use Rattle.fs_model.specs.declared.event.Event.{Event}
-use Rattle.fs_model.specs.declared.event.Event.TheVariants.{Spawn}
+use Rattle.fs_model.specs.declared.event.Event.TheVariants.{CallAt}
 use Rattle.fs_model.specs.declared.reply.FileType.{FileType}
 use Rattle.fs_model.specs.declared.reply.Reply.{Reply}
-use Rattle.fs_model.specs.declared.reply.Reply.TheVariants.{Granted, At, Stamped, Refused}
+use Rattle.fs_model.specs.declared.reply.Reply.TheVariants.{Granted, Stamped, Refused}
 use Rattle.fs_model.specs.declared.reply.Status.{Status}
+use Rattle.fs_model.specs.States.{State}
+use Rattle.fs_model.specs.Trails.{trail_of}
+use Rattle.fs_model.specs.Walks.{first_refusal, found_of}
+use Rattle.fs_model.specs.Rows.{row_of}
+use Rattle.fs_model.specs.HandleCalls.{handle_call_row}
+use Rattle.fs_model.specs.Steps.{firm_refusal, other_refusal, after}
+use Rattle.fs_model.proofs.Machine.{fresh, went}
 use Rattle.fuse_protocol.specs.declared.flags.OpenedFlags.{OpenedFlags}
 use Rattle.fuse_protocol.specs.declared.entry.DirectoryEntry.{DirectoryEntry}
+use Rattle.fuse_protocol.specs.declared.operation.AttrChanges.{AttrChanges}
+use Rattle.fuse_protocol.specs.declared.operation.Extent.{Extent}
+use Rattle.fuse_protocol.specs.declared.operation.Operation.{Operation}
+use Rattle.fuse_protocol.specs.declared.operation.Operation.TheVariants.{Init, SetAttr}
+use Rattle.fuse_protocol.specs.declared.reply.Time.{Time}
 use Rattle.fuse_protocol.specs.declared.request.Request.{Request as WireRequest}
 use Rattle.fuse_protocol.specs.declared.request.RequestFault.{RequestFault}
 use Rattle.fuse_protocol.specs.declared.request.RequestFault.TheVariants as faults
@@ -28,35 +44,34 @@ use Rattle.fuse_protocol.specs.Names.{text_of, name_from}
 use Rattle.fuse_protocol.specs.Operations.{attr_changes, operation_of, object_operation, handle_operation, other_operation}
 use Rattle.fuse_protocol.specs.Requests.{request_of}
 use Rattle.fuse_protocol.specs.Replies.{reply_bytes}
-use Rattle.fuse_protocol.specs.Entries.{directory_entry_bytes}
+use Rattle.fuse_protocol.specs.Entries.{directory_entry_bytes, directory_record_bytes}
 use Rattle.fuse_protocol.specs.AclValues.{acl_value_bytes}
-use Rattle.fuse_plans.specs.Protocol.{request_from, malformed, response_bytes}
-use Rattle.fuse_plans.specs.Plans.{Plan, Finish, Ask}
-use Rattle.fuse_plans.specs.RequestErrors.{error_number}
-use Rattle.fuse_protocol.specs.declared.reply.Time.{Time}
-use Rattle.fuse_plans.specs.Requests.{Outside, credential_for, Request}
-use Rattle.fuse_protocol.specs.declared.operation.Operation.{Operation}
-use Rattle.fuse_protocol.specs.declared.operation.Extent.{Extent}
-use Rattle.fuse_plans.specs.declared.reply.Attributes.{Attributes}
-use Rattle.fuse_plans.specs.declared.reply.ReplyBody.{ReplyBody}
-use Rattle.fuse_plans.specs.declared.reply.ReplyBody.TheVariants.{Bytes}
-use Rattle.fuse_plans.specs.declared.reply.Response.{Response}
-use Rattle.fuse_plans.specs.declared.reply.Response.TheVariants.{Silence, Says, Fails}
 use Rattle.fuse_state.specs.Keepings.{nothing_kept}
 use Rattle.fuse_state.specs.Servers.{Server, new_server}
+use Rattle.fuse_plans.specs.declared.reply.Attributes.{Attributes}
+use Rattle.fuse_plans.specs.declared.reply.ReplyBody.{ReplyBody}
+use Rattle.fuse_plans.specs.declared.reply.ReplyBody.TheVariants.{Nothing, Found, Shown, Opened, Created, Bytes}
+use Rattle.fuse_plans.specs.declared.reply.Response.{Response}
+use Rattle.fuse_plans.specs.declared.reply.Response.TheVariants.{Silence, Says, Fails}
+use Rattle.fuse_plans.specs.declared.request.WhoCounts.{WhoCounts}
+use Rattle.fuse_plans.specs.Plans.{Plan, Finish, Ask}
+use Rattle.fuse_plans.specs.Protocol.{request_from, malformed, response_bytes}
+use Rattle.fuse_plans.specs.RequestErrors.{error_number}
+use Rattle.fuse_plans.specs.Requests.{Outside, credential_for, Request}
 use Rattle.fuse_plans.specs.Works.{give, fail, kept, keep, ◌>>=◌, attempt, ask}
-use Rattle.fuse_plans.specs.Callers.{retire, begin_process, caller, caller_with_room, the_server_process, between, look_inside, by_dentries, on, look, the_number, directory_number, standing_directory}
-use Rattle.fuse_plans.specs.declared.mode.Mode.{Mode}
-use Rattle.fuse_plans.specs.Flags.{only}
-use Rattle.fuse_plans.specs.NamePlans.{new_valid, made, link_by_dentry}
-use Rattle.fuse_plans.specs.FilePlans.{open_or_make, show_open, confirm_shown, confirm_open, look_open, tell_created, the_open, seek, read_piece, read_pieces, write_piece, write_pieces, write_runs}
-use Rattle.fuse_plans.specs.ListingPlans.{look_up_names, read_directory_plus}
-use Rattle.fuse_plans.specs.DirectoryPlans.{take_directory, entry_kind, tell_names, list_open, list_kept, read_directory, close_directory, sync_all}
-use Rattle.fuse_plans.specs.Masks.{is_masked}
-use Rattle.fuse_plans.specs.Nobody.{is_owner}
-use Rattle.fuse_plans.specs.Times.{tell_time, told_stamps}
+use Rattle.fuse_plans.specs.Callers.{actor_in, inside, look_inside, on, look, the_number}
+use Rattle.fuse_plans.specs.NamePlans.{new_valid, tell_made, number_named}
+use Rattle.fuse_plans.specs.FilePlans.{open_or_make, look_open, tell_created, write_piece, write_pieces, write_runs, touch_open}
 use Rattle.fuse_plans.specs.AttributePlans.{set_stamps}
-use Rattle.fuse_plans.specs.Serving.{begin, count_space, end, request_plan}
+use Rattle.fuse_plans.specs.DirectoryPlans.{take_directory, entry_kind, tell_names, list_all, list_kept, read_directory, close_directory, sync_all}
+use Rattle.fuse_plans.specs.ListingOrder.{listing_place}
+use Rattle.fuse_plans.specs.ListingPlans.{look_up_names, read_directory_plus}
+use Rattle.fuse_plans.specs.Masks.{is_masked}
+use Rattle.fuse_plans.specs.Nobody.{is_granted, who_counts_in}
+use Rattle.fuse_plans.specs.Times.{tell_time, told_stamps}
+use Rattle.fuse_plans.specs.Serving.{terms, begin, count_space, end, request_plan}
+
+-- ---- with given replies
 
 -- what is asked, and the result, if the plan is done with just these replies
 abbrev pub replayed : {X : Type 0} → Plan X → List Reply → List Event × Option X
@@ -67,8 +82,6 @@ replayed (Ask e next) (reply ∷ replies) =
     let rest = replayed (next reply) replies in
     (e ∷ rest.0, rest.1)
 
--- ---- requests one after another
-
 -- an answer, with the number of an error
 pub data Heard : Type 0 where
   Silent : Heard
@@ -76,29 +89,69 @@ pub data Heard : Type 0 where
   Error : ℕ → Heard
   Undone : Heard
 
-abbrev heard : Response → Heard
-heard Silence = Silent
-heard (Says body) = Told body
-heard (Fails e) = Error (error_number e)
+abbrev as_heard : Response → Heard
+as_heard Silence = Silent
+as_heard (Says body) = Told body
+as_heard (Fails e) = Error (error_number e)
 
 abbrev heard_of : Option (Response × Server) → Heard
 heard_of None = Undone
-heard_of (Some r) = heard r.0
+heard_of (Some r) = as_heard r.0
 
 abbrev left_of : Server → Option (Response × Server) → Server
 left_of s None = s
 left_of s (Some r) = r.1
 
+-- requests, each with the replies to what is asked for it
 abbrev pub played : Server → List (Request × List Reply) → List (List Event × Heard)
 played s [] = []
 played s (step ∷ steps) =
     let done = replayed (request_plan step.0 s) step.1 in
     (done.0, heard_of done.1) ∷ played (left_of s done.1) steps
 
+-- ---- on the machine
+
+-- the result, and the state then
+abbrev pub carried : {X : Type 0} → Plan X → State → X × State
+carried (Finish x) m = (x, m)
+carried (Ask e next) m =
+    let step = went m e (firm_refusal m e) (other_refusal m e) in
+    carried (next step.0) step.1
+
+-- what the kernel hears of requests, one after another
+abbrev pub heard_from : Server → State → List Request → List Heard
+heard_from s m [] = []
+heard_from s m (r ∷ rs) =
+    let done = carried (request_plan r s) m in
+    as_heard done.0.0 ∷ heard_from done.0.1 done.1 rs
+
+-- what the server and the machine are after them
+abbrev pub after_requests : Server → State → List Request → Server × State
+after_requests s m [] = (s, m)
+after_requests s m (r ∷ rs) =
+    let done = carried (request_plan r s) m in
+    after_requests done.0.1 done.1 rs
+
+-- who counts for a request after others
+abbrev pub counted_from : Server → State → List Request → Request → WhoCounts
+counted_from s m rs r =
+    let left = after_requests s m rs in
+    (carried (who_counts_in r.node r.uid r.operation left.0) left.1).0
+
 -- all that a plan computes with
 unfoldable pub all_plans : Unit {0}
-unfolding give fail kept keep ◌>>=◌ attempt ask retire begin_process caller caller_with_room the_server_process between look_inside by_dentries on look the_number directory_number standing_directory new_valid made is_masked is_owner link_by_dentry open_or_make show_open confirm_shown confirm_open look_open tell_created the_open seek read_piece read_pieces write_piece write_pieces write_runs tell_names list_open list_kept read_directory look_up_names read_directory_plus close_directory sync_all begin count_space end request_plan take_directory tell_time told_stamps set_stamps
+unfolding give fail kept keep ◌>>=◌ attempt ask inside look_inside on look the_number new_valid tell_made number_named open_or_make look_open tell_created write_piece write_pieces write_runs touch_open set_stamps take_directory tell_names list_all list_kept read_directory close_directory sync_all look_up_names read_directory_plus is_masked is_granted tell_time told_stamps begin count_space end request_plan
 all_plans = tt
+
+-- and all that the machine does
+unfoldable pub all_runs : Unit {0}
+unfolding all_plans verdict trail_of first_refusal found_of row_of handle_call_row firm_refusal other_refusal after
+all_runs = tt
+
+-- and the places of names in listings
+unfoldable pub all_listings : Unit {0}
+unfolding all_runs listing_place initial round write_word write_byte write finish
+all_listings = tt
 
 -- ---- words
 
@@ -106,9 +159,9 @@ abbrev pub second : ℕ → Time
 second k = record { seconds = k; nanoseconds = 0 }
 
 abbrev pub new_where : Bool → Server
-new_where keeps_times = new_server (record { max_write = 4096; posix_acl = false; keeping = nothing_kept; sectors = 878; inodes = 63; max_name = 120; keeps_times = keeps_times; start = second 1000000001 })
+new_where keeps_times = new_server (record { max_write = 4096; posix_acl = false; keeping = nothing_kept; sectors = 878; inodes = 63; max_name = 120; keeps_times = keeps_times; commit = 0; start = second 1000000001 })
 
--- the disk of the recorded runs
+-- that of a disk which was just made, `fresh`
 abbrev pub new : Server
 new = new_where false
 
@@ -116,26 +169,45 @@ new = new_where false
 abbrev pub timekeeping : Server
 timekeeping = new_where true
 
+-- what the kernel hears from the first request on
+abbrev pub heard : List Request → List Heard
+heard rs = heard_from new fresh rs
+
 abbrev pub outside : Option (List ℕ) → ℕ → Outside
 outside groups now = record { groups = groups; caps = all_caps; now = second now; memory = true }
 
-abbrev pub asks : ℕ → ℕ → ℕ → Option (List ℕ) → ℕ → Operation → List Reply → Request × List Reply
-asks node uid gid groups now operation replies = (
-  record {
-    unique = 0;
-    node = node;
-    uid = uid;
-    cred = credential_for uid gid (outside groups now);
-    now = second now;
-    operation = Some operation;
-    value = None;
-    memory = true;
-  },
-  replies,
-)
+-- of a node, by a user with a group and more groups, and when
+abbrev pub asks : ℕ → ℕ → ℕ → Option (List ℕ) → ℕ → Operation → Request
+asks node uid gid groups now operation = record {
+  unique = 0;
+  node = node;
+  uid = uid;
+  cred = credential_for uid gid (outside groups now);
+  now = second now;
+  operation = Some operation;
+  value = None;
+  memory = true;
+}
 
-abbrev pub user : ℕ → ℕ → List ℕ → Event
-user uid gid groups = Spawn (usual_credential uid gid groups)
+-- where a value says an ACL
+abbrev pub asks_with : Option AccessList → ℕ → ℕ → ℕ → Option (List ℕ) → ℕ → Operation → Request
+asks_with acl node uid gid groups now operation = record (asks node uid gid groups now operation) { value = Some acl }
+
+abbrev pub init : Operation
+init = Init (record { major = 7; minor = 45; max_readahead = 131072; flags = record { 0 = 1946157051 } })
+
+abbrev pub no_changes : AttrChanges
+no_changes = record { mode = None; uid = None; gid = None; size = None; atime = None; mtime = None; handle = None }
+
+abbrev pub set_mode : ℕ → Operation
+set_mode mode = SetAttr (record no_changes { mode = Some mode })
+
+abbrev pub set_owner : ℕ → Operation
+set_owner uid = SetAttr (record no_changes { uid = Some uid })
+
+-- a call by someone in a directory, or on an object
+abbrev pub at : ℕ → ℕ → ℕ → Call → Event
+at uid gid start call = CallAt (actor_in (usual_credential uid gid []) start) call
 
 abbrev pub extent : ℕ → ℕ → ℕ → Extent
 extent handle offset size = record { handle = handle; offset = offset; size = size }
@@ -145,9 +217,6 @@ failed e = Refused (Failed e)
 
 abbrev pub granted : Reply
 granted = Granted Other
-
-abbrev pub AtOffset : ℕ → Reply
-AtOffset k = At k
 
 abbrev pub status : ℕ → FileType → ℕ → ℕ → ℕ → ℕ → ℕ → Status
 status ino kind mode links owner group size =
@@ -163,6 +232,37 @@ attributes shown atime mtime ctime = record { status = shown; times = record { a
 abbrev pub none_kept : OpenedFlags
 none_kept = record { 0 = 0 }
 
+-- what the kernel hears: it is shown, or found, or made, with these times, or all with one; it is opened; or it is done
+abbrev pub shown : Status → ℕ → ℕ → ℕ → Heard
+shown status atime mtime ctime = Told (Shown (attributes status (second atime) (second mtime) (second ctime)))
+
+abbrev pub found : ℕ → Status → ℕ → ℕ → ℕ → Heard
+found node status atime mtime ctime = Told (Found node 0 (attributes status (second atime) (second mtime) (second ctime)))
+
+abbrev pub made : ℕ → Status → ℕ → Heard
+made node status time = found node status time time time
+
+abbrev pub created_at : ℕ → Status → ℕ → ℕ → ℕ → ℕ → Heard
+created_at node status atime mtime ctime handle =
+    Told (Created node 0 (attributes status (second atime) (second mtime) (second ctime)) handle none_kept)
+
+abbrev pub created : ℕ → Status → ℕ → ℕ → Heard
+created node status time handle = created_at node status time time time handle
+
+abbrev pub opened : ℕ → Heard
+opened handle = Told (Opened handle none_kept)
+
+abbrev pub done : Heard
+done = Told Nothing
+
+-- what the first request is answered
+abbrev pub begun : Heard
+begun = Told (terms 131072 524360 4096 0)
+
+-- the node of the object that was the k-th to get a number
+abbrev pub node : ℕ → ℕ → ℕ
+node k n = 2 ^ 32 * k + n
+
 abbrev pub entry : List ℕ → ℕ → ℕ → DirectoryEntry
 entry name ino next = record { ino = ino; next = next; kind = entry_kind name; name = name }
 
@@ -173,11 +273,6 @@ abbrev pub acl : Perms → List (ℕ × Perms) → Perms → List (ℕ × Perms)
 acl owner users group groups mask other =
     record { owner = owner; users = users; group = group; groups = groups; mask = mask; other = other }
 
--- how a file is opened
-abbrev pub flags : Mode → Bool → Bool → Bool → Bool → Bool → Flags
-flags mode create excl trunc nofollow directory =
-    record (only mode) { create = create; excl = excl; trunc = trunc; nofollow = nofollow; directory = directory }
-
 -- ---- with the protocol's bytes
 
 -- the request of these bytes, with the ACL that its value says
@@ -186,19 +281,15 @@ spoken outside acl (Ok r) = request_from outside acl r
 spoken outside acl (Err (faults.Malformed unique)) = malformed outside unique
 spoken outside acl (Err faults.NotWhole) = malformed outside 0
 
-abbrev written : ℕ → Option (Response × Server) → List ℕ
-written unique None = []
-written unique (Some r) = response_bytes unique r.0
-
--- what is asked, and the bytes of each reply
-abbrev pub served : Server → List (List ℕ × Outside × Option (Option AccessList) × List Reply) → List (List Event × List ℕ)
-served s [] = []
-served s (step ∷ steps) =
+-- the bytes of each reply
+abbrev pub written_from : Server → State → List (List ℕ × Outside × Option (Option AccessList)) → List (List ℕ)
+written_from s m [] = []
+written_from s m (step ∷ steps) =
     let request = spoken step.1 step.2 (request_of step.0) in
-    let done = replayed (request_plan request s) step.3 in
-    (done.0, written request.unique done.1) ∷ served (left_of s done.1) steps
+    let done = carried (request_plan request s) m in
+    response_bytes request.unique done.0.0 ∷ written_from done.0.1 done.1 steps
 
 -- all that bytes compute with
 unfoldable pub all_bytes : Unit {0}
-unfolding all_plans request_of operation_of object_operation handle_operation other_operation attr_changes text_of name_from short_at word_at long_at bytes_of_u16s bytes_of_u32s bytes_of_u64s reply_bytes directory_entry_bytes acl_value_bytes
+unfolding all_listings request_of operation_of object_operation handle_operation other_operation attr_changes text_of name_from short_at word_at long_at bytes_of_u16s bytes_of_u32s bytes_of_u64s reply_bytes directory_entry_bytes directory_record_bytes acl_value_bytes
 all_bytes = tt

@@ -1,78 +1,126 @@
 -- Requests whose node is another object by now.
-use Rattle.std.specs.Prelude.{◌≡◌, true, false, [], ◌∷◌, codes, Some, None}
+use Rattle.std.specs.Prelude.{◌≡◌, [], ◌∷◌, codes, Some, None}
 use Rattle.std.proofs.Common.{refl}
-use Rattle.posix_acl.specs.Entries.{perms_of}
+use Rattle.posix_acl.specs.AccessList.{minimal}
 use Rattle.fs_cred.specs.declared.errno.Errno.TheVariants.{EIO}
-use Rattle.fs_model.specs.declared.call.Call.TheVariants.{Open, Close, Fstat, Lstat, Access, Ftruncate, Mkdir, Rmdir, Umask}
-use Rattle.fs_model.specs.declared.event.Event.TheVariants.{Call as Calls, Enter}
+use Rattle.fs_cred.specs.Credentials.{usual_credential}
+use Rattle.fs_model.specs.declared.call.AclType.TheVariants.{Access as AccessAcl}
+use Rattle.fs_model.specs.declared.call.Call.TheVariants.{Lstat, GetAcl, Mkdir, Rmdir}
+use Rattle.fs_model.specs.declared.event.Event.TheVariants.{CallAt}
 use Rattle.fs_model.specs.declared.reply.FileType.TheVariants.{File, Directory}
-use Rattle.fs_model.specs.declared.reply.Reply.TheVariants.{Done, Pid, Fd, Mask, Shown}
-use Rattle.fuse_protocol.specs.declared.operation.Operation.TheVariants.{Lookup, GetAttr, MkDir, RmDir, Open as OpenFile, Init, OpenDir, ReadDir}
-use Rattle.fuse_plans.specs.declared.reply.ReplyBody.TheVariants.{Nothing, Found, Opened}
-use Rattle.fuse_plans.specs.declared.mode.Mode.TheVariants.{Writes}
-use Rattle.fuse_plans.specs.Serving.{terms}
-use Rattle.fuse_plans.proofs.Replays.{Told, Error, played, all_plans, second, new, asks, user, extent, failed, granted, status, attributes, none_kept, flags}
+use Rattle.fs_model.specs.declared.reply.Reply.TheVariants.{Done, Made, Shown, Acl}
+use Rattle.fuse_protocol.specs.declared.operation.Operation.TheVariants.{Lookup, GetAttr, MkDir, RmDir, Rename, Open as OpenFile, Read as ReadFile, Write as WriteFile, Release, OpenDir, ReadDir, ReleaseDir, Create}
+use Rattle.fuse_plans.specs.declared.reply.ReplyBody.TheVariants.{Bytes, Wrote as WroteBytes}
+use Rattle.fuse_plans.specs.Callers.{actor_at}
+use Rattle.fuse_plans.proofs.Replays.{Told, Error, played, heard, all_plans, all_runs, all_listings, new, asks, init, at, extent, failed, status, entry, entries, shown, found, made, created, opened, done, begun, node}
 
--- A file is opened for writing, and is to lose its bytes: first its name leads to another, and that is closed as it was.
-pub open_elsewhere : played new (
-    asks 0 0 0 None 1000000002 (Init (record { major = 7; minor = 45; max_readahead = 131072; flags = record { 0 = 1946157051 } })) ((Pid 1) ∷ [])
-    ∷ asks 1 0 0 (Some []) 1000000003 (Lookup (codes "a")) ((Pid 2) ∷ Done ∷ (Shown (status 2 File 384 1 0 0 5)) ∷ Done ∷ [])
-    ∷ asks 2 0 0 (Some []) 1000000004 (OpenFile (record { 0 = 513 })) (Done ∷ (Fd 0) ∷ Done ∷ (Shown (status 3 File 384 1 0 0 5)) ∷ Done ∷ [])
-    ∷ asks 2 0 0 (Some []) 1000000005 (OpenFile (record { 0 = 513 })) (Done ∷ (Fd 0) ∷ Done ∷ (Shown (status 2 File 384 1 0 0 5)) ∷ Done ∷ [])
+-- Another file takes a file's name, while both are open. Each node leads to its own file still, and to open one with O_TRUNC cuts
+-- that one; the one without a name is stale once it is closed.
+pub open_elsewhere : heard (
+    asks 0 0 0 None 1000000002 init
+    ∷ asks 1 0 0 (Some []) 1000000003 (Create (codes "a") (record { 0 = 0o102 }) 0o100600 0)
+    ∷ asks (node 1 2) 0 0 (Some []) 1000000004 (WriteFile 1 0 (codes "first"))
+    ∷ asks 1 0 0 (Some []) 1000000005 (Create (codes "b") (record { 0 = 0o101 }) 0o100600 0)
+    ∷ asks (node 1 3) 0 0 (Some []) 1000000006 (WriteFile 2 0 (codes "second"))
+    ∷ asks 1 0 0 (Some []) 1000000007 (Rename (codes "b") 1 (codes "a") 0)
+    ∷ asks 1 0 0 (Some []) 1000000008 (Lookup (codes "a"))
+    ∷ asks (node 1 2) 0 0 (Some []) 1000000009 GetAttr
+    ∷ asks (node 1 2) 0 0 (Some []) 1000000010 (ReadFile (extent 1 0 4096))
+    ∷ asks (node 1 2) 0 0 (Some []) 1000000011 (OpenFile (record { 0 = 0o1001 }))
+    ∷ asks (node 1 2) 0 0 (Some []) 1000000012 GetAttr
+    ∷ asks (node 1 3) 0 0 (Some []) 1000000012 GetAttr
+    ∷ asks (node 1 2) 0 0 None 1000000013 (Release 1)
+    ∷ asks (node 1 2) 0 0 None 1000000013 (Release 3)
+    ∷ asks (node 1 2) 0 0 (Some []) 1000000014 (OpenFile (record { 0 = 0o1001 }))
+    ∷ asks (node 1 3) 0 0 (Some []) 1000000014 GetAttr
     ∷ []) ≡
-    (((user 0 0 []) ∷ []), Told (terms 131072 524360 4096 0))
-    ∷ (((user 0 0 []) ∷ (Enter 2 1 1) ∷ (Calls 2 (Lstat (codes "a"))) ∷ (Enter 2 1 1) ∷ []), Told (Found 2 0 (attributes (status 2 File 384 1 0 0 5) (second 1000000001) (second 1000000001) (second 1000000001))))
-    ∷ (((Enter 2 1 1) ∷ (Calls 2 (Open (codes "a") (flags Writes false false false true false) 0)) ∷ (Enter 2 1 1) ∷ (Calls 2 (Fstat 0)) ∷ (Calls 2 (Close 0)) ∷ []), Error 116)
-    ∷ (((Enter 2 1 1) ∷ (Calls 2 (Open (codes "a") (flags Writes false false false true false) 0)) ∷ (Enter 2 1 1) ∷ (Calls 2 (Fstat 0)) ∷ (Calls 2 (Ftruncate 0 0)) ∷ []), Told (Opened 64 none_kept))
+    begun
+    ∷ created (node 1 2) (status 2 File 0o600 1 0 0 0) 1000000003 1
+    ∷ Told (WroteBytes 5)
+    ∷ created (node 1 3) (status 3 File 0o600 1 0 0 0) 1000000005 2
+    ∷ Told (WroteBytes 6)
+    ∷ done
+    ∷ found (node 1 3) (status 3 File 0o600 1 0 0 6) 1000000005 1000000006 1000000007
+    ∷ shown (status 2 File 0o600 0 0 0 5) 1000000003 1000000004 1000000007
+    ∷ Told (Bytes (codes "first"))
+    ∷ opened 3
+    ∷ shown (status 2 File 0o600 0 0 0 0) 1000000003 1000000011 1000000011
+    ∷ shown (status 3 File 0o600 1 0 0 6) 1000000005 1000000006 1000000007
+    ∷ done
+    ∷ done
+    ∷ Error 116
+    ∷ shown (status 3 File 0o600 1 0 0 6) 1000000005 1000000006 1000000007
     ∷ []
-unfolding all_plans
+unfolding all_runs
 open_elsewhere = refl
 
--- An open directory is removed, and another has its number: that isn't listed.
-pub list_elsewhere : played new (
-    asks 0 0 0 None 1000000002 (Init (record { major = 7; minor = 45; max_readahead = 131072; flags = record { 0 = 1946157051 } })) ((Pid 1) ∷ [])
-    ∷ asks 1 0 0 (Some []) 1000000003 (MkDir (codes "d") 493 18) ((Pid 2) ∷ (Mask 18) ∷ Done ∷ Done ∷ Done ∷ Done ∷ (Shown (status 4 Directory 493 1 0 0 0)) ∷ Done ∷ [])
-    ∷ asks 4294967300 0 0 (Some []) 1000000004 OpenDir (Done ∷ (Shown (status 1 Directory 493 1 0 0 64)) ∷ Done ∷ Done ∷ (Shown (status 4 Directory 493 1 0 0 0)) ∷ Done ∷ Done ∷ granted ∷ Done ∷ [])
-    ∷ asks 1 0 0 (Some []) 1000000005 (RmDir (codes "d")) (Done ∷ Done ∷ Done ∷ [])
-    ∷ asks 1 0 0 (Some []) 1000000006 (MkDir (codes "e") 493 18) ((Mask 18) ∷ Done ∷ Done ∷ Done ∷ Done ∷ (Shown (status 4 Directory 493 1 0 0 0)) ∷ Done ∷ [])
-    ∷ asks 4294967300 0 0 (Some []) 1000000007 (ReadDir (extent 4294967296 0 4096)) []
+-- An open directory is removed, and has no names; another gets its number, and isn't listed by the handle of the first. Opened by its
+-- own node it is. What was closed isn't open.
+pub list_elsewhere : heard (
+    asks 0 0 0 None 1000000002 init
+    ∷ asks 1 0 0 (Some []) 1000000003 (MkDir (codes "d") 0o755 0o22)
+    ∷ asks (node 1 2) 0 0 (Some []) 1000000004 OpenDir
+    ∷ asks (node 1 2) 0 0 (Some []) 1000000004 (ReadDir (extent 0 0 4096))
+    ∷ asks 1 0 0 (Some []) 1000000005 (RmDir (codes "d"))
+    ∷ asks (node 1 2) 0 0 (Some []) 1000000005 (ReadDir (extent 0 0 4096))
+    ∷ asks 1 0 0 (Some []) 1000000006 (MkDir (codes "e") 0o755 0o22)
+    ∷ asks (node 1 2) 0 0 (Some []) 1000000007 (ReadDir (extent 0 0 4096))
+    ∷ asks (node 2 2) 0 0 (Some []) 1000000008 OpenDir
+    ∷ asks (node 2 2) 0 0 (Some []) 1000000008 (ReadDir (extent 1 0 4096))
+    ∷ asks (node 2 2) 0 0 (Some []) 1000000008 (ReadDir (extent 0 0 4096))
+    ∷ asks (node 1 2) 0 0 None 1000000009 (ReleaseDir 0)
+    ∷ asks (node 1 2) 0 0 (Some []) 1000000009 (ReadDir (extent 0 0 4096))
     ∷ []) ≡
-    (((user 0 0 []) ∷ []), Told (terms 131072 524360 4096 0))
-    ∷ (((user 0 0 []) ∷ (Calls 2 (Umask 18)) ∷ (Enter 2 1 1) ∷ (Calls 2 (Mkdir (codes "d") 493)) ∷ (Enter 2 1 1) ∷ (Enter 1 1 1) ∷ (Calls 1 (Lstat (codes "d"))) ∷ (Enter 1 1 1) ∷ []), Told (Found 4294967300 0 (attributes (status 4 Directory 493 1 0 0 0) (second 1000000003) (second 1000000003) (second 1000000003))))
-    ∷ (((Enter 1 1 1) ∷ (Calls 1 (Lstat (codes "."))) ∷ (Enter 1 1 1) ∷ (Enter 1 1 1) ∷ (Calls 1 (Lstat (codes "d"))) ∷ (Enter 1 1 1) ∷ (Enter 2 1 1) ∷ (Calls 2 (Access (codes "d") (perms_of 4))) ∷ (Enter 2 1 1) ∷ []), Told (Opened 4294967296 none_kept))
-    ∷ (((Enter 2 1 1) ∷ (Calls 2 (Rmdir (codes "d"))) ∷ (Enter 2 1 1) ∷ []), Told Nothing)
-    ∷ (((Calls 2 (Umask 18)) ∷ (Enter 2 1 1) ∷ (Calls 2 (Mkdir (codes "e") 493)) ∷ (Enter 2 1 1) ∷ (Enter 1 1 1) ∷ (Calls 1 (Lstat (codes "e"))) ∷ (Enter 1 1 1) ∷ []), Told (Found 8589934596 0 (attributes (status 4 Directory 493 1 0 0 0) (second 1000000006) (second 1000000006) (second 1000000006))))
-    ∷ ([], Error 116)
+    begun
+    ∷ made (node 1 2) (status 2 Directory 0o755 1 0 0 0) 1000000003
+    ∷ opened 0
+    ∷ Told (entries (entry (codes ".") 2 1 ∷ entry (codes "..") 1 2 ∷ []))
+    ∷ done
+    ∷ Told (entries [])
+    ∷ made (node 2 2) (status 2 Directory 0o755 1 0 0 0) 1000000006
+    ∷ Error 116
+    ∷ opened 1
+    ∷ Told (entries (entry (codes ".") 2 1 ∷ entry (codes "..") 1 2 ∷ []))
+    ∷ Error 116
+    ∷ done
+    ∷ Error 9
     ∷ []
-unfolding all_plans
+unfolding all_listings
 list_elsewhere = refl
 
 -- A directory is removed, and another that has its number is made, but can't be shown: the node of the one that is gone never leads
 -- there, and the other is found by a node of its own.
 pub made_unseen : played new (
-    asks 0 0 0 None 1000000002 (Init (record { major = 7; minor = 45; max_readahead = 131072; flags = record { 0 = 1946157051 } })) ((Pid 1) ∷ [])
-    ∷ asks 1 0 0 (Some []) 1000000003 (MkDir (codes "d") 493 18) ((Pid 2) ∷ (Mask 18) ∷ Done ∷ Done ∷ Done ∷ Done ∷ (Shown (status 4 Directory 493 1 0 0 0)) ∷ Done ∷ [])
-    ∷ asks 1 0 0 (Some []) 1000000004 (RmDir (codes "d")) (Done ∷ Done ∷ Done ∷ [])
-    ∷ asks 1 0 0 (Some []) 1000000005 (MkDir (codes "e") 493 18) ((Mask 18) ∷ Done ∷ Done ∷ Done ∷ Done ∷ (failed EIO) ∷ Done ∷ [])
-    ∷ asks 4294967300 0 0 (Some []) 1000000006 GetAttr []
-    ∷ asks 4294967300 0 0 (Some []) 1000000006 (Lookup (codes "f")) []
-    ∷ asks 4294967300 0 0 (Some []) 1000000006 (RmDir (codes "f")) []
-    ∷ asks 1 0 0 (Some []) 1000000007 (Lookup (codes "e")) (Done ∷ (Shown (status 4 Directory 493 1 0 0 0)) ∷ Done ∷ [])
-    ∷ asks 4294967300 0 0 (Some []) 1000000008 GetAttr []
-    ∷ asks 4294967300 0 0 (Some []) 1000000009 (Lookup (codes "f")) []
-    ∷ asks 1 0 0 (Some []) 1000000010 (Lookup (codes "e")) (Done ∷ (Shown (status 4 Directory 493 1 0 0 0)) ∷ Done ∷ [])
+    (asks 0 0 0 None 1000000002 init, [])
+    ∷ (asks 1 0 0 (Some []) 1000000003 (MkDir (codes "d") 0o755 0o22), Made 4 ∷ Shown (status 4 Directory 0o755 1 0 0 0) ∷ [])
+    ∷ (asks 1 0 0 (Some []) 1000000004 (RmDir (codes "d")), Shown (status 4 Directory 0o755 1 0 0 0) ∷ Done ∷ [])
+    ∷ (asks 1 0 0 (Some []) 1000000005 (MkDir (codes "e") 0o755 0o22), Made 4 ∷ failed EIO ∷ [])
+    ∷ (asks (node 1 4) 0 0 (Some []) 1000000006 GetAttr, [])
+    ∷ (asks (node 1 4) 0 0 (Some []) 1000000006 (Lookup (codes "f")), [])
+    ∷ (asks (node 1 4) 0 0 (Some []) 1000000006 (RmDir (codes "f")), [])
+    ∷ (
+      asks 1 0 0 (Some []) 1000000007 (Lookup (codes "e")),
+      Shown (status 1 Directory 0o755 1 0 0 128) ∷ Acl (Some (minimal 0o755)) ∷ Shown (status 4 Directory 0o755 1 0 0 0) ∷ [],
+    )
+    ∷ (asks (node 1 4) 0 0 (Some []) 1000000008 GetAttr, [])
+    ∷ (asks (node 1 4) 0 0 (Some []) 1000000009 (Lookup (codes "f")), [])
     ∷ []) ≡
-    (((user 0 0 []) ∷ []), Told (terms 131072 524360 4096 0))
-    ∷ (((user 0 0 []) ∷ (Calls 2 (Umask 18)) ∷ (Enter 2 1 1) ∷ (Calls 2 (Mkdir (codes "d") 493)) ∷ (Enter 2 1 1) ∷ (Enter 1 1 1) ∷ (Calls 1 (Lstat (codes "d"))) ∷ (Enter 1 1 1) ∷ []), Told (Found 4294967300 0 (attributes (status 4 Directory 493 1 0 0 0) (second 1000000003) (second 1000000003) (second 1000000003))))
-    ∷ (((Enter 2 1 1) ∷ (Calls 2 (Rmdir (codes "d"))) ∷ (Enter 2 1 1) ∷ []), Told Nothing)
-    ∷ (((Calls 2 (Umask 18)) ∷ (Enter 2 1 1) ∷ (Calls 2 (Mkdir (codes "e") 493)) ∷ (Enter 2 1 1) ∷ (Enter 1 1 1) ∷ (Calls 1 (Lstat (codes "e"))) ∷ (Enter 1 1 1) ∷ []), Error 5)
+    ([], begun)
+    ∷ (
+      CallAt (actor_at (usual_credential 0 0 []) 0o22 1 1) (Mkdir (codes "d") 0o755) ∷ at 0 0 4 (Lstat []) ∷ [],
+      made (node 1 4) (status 4 Directory 0o755 1 0 0 0) 1000000003,
+    )
+    ∷ (at 0 0 1 (Lstat (codes "d")) ∷ at 0 0 1 (Rmdir (codes "d")) ∷ [], done)
+    ∷ (CallAt (actor_at (usual_credential 0 0 []) 0o22 1 1) (Mkdir (codes "e") 0o755) ∷ at 0 0 4 (Lstat []) ∷ [], Error 5)
     ∷ ([], Error 116)
     ∷ ([], Error 2)
     ∷ ([], Error 116)
-    ∷ (((Enter 2 1 1) ∷ (Calls 2 (Lstat (codes "e"))) ∷ (Enter 2 1 1) ∷ []), Told (Found 8589934596 0 (attributes (status 4 Directory 493 1 0 0 0) (second 1000000003) (second 1000000003) (second 1000000004))))
+    ∷ (
+      at 0 0 1 (Lstat []) ∷ at 0 0 1 (GetAcl [] AccessAcl) ∷ at 0 0 1 (Lstat (codes "e")) ∷ [],
+      made (node 2 4) (status 4 Directory 0o755 1 0 0 0) 1000000005,
+    )
     ∷ ([], Error 116)
     ∷ ([], Error 2)
-    ∷ (((Enter 2 1 1) ∷ (Calls 2 (Lstat (codes "e"))) ∷ (Enter 2 1 1) ∷ []), Told (Found 8589934596 0 (attributes (status 4 Directory 493 1 0 0 0) (second 1000000003) (second 1000000003) (second 1000000004))))
     ∷ []
 unfolding all_plans
 made_unseen = refl

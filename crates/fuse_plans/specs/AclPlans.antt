@@ -1,25 +1,25 @@
 -- Plans of requests for the two ACLs of acl(5), which are attributes to the kernel: xattr(7).
 --     get_xattr, list_xattrs, set_xattr, remove_xattr
-use Rattle.std.specs.Prelude.{ℕ, ◌+◌, ◌*◌, ◌==◌, nat_lt, Bool, true, false, not, ◌&&◌, List, [], ◌∷◌, ◌++◌, length, codes, Option, None, Some, is_some, if◌then◌else◌}
+use Rattle.std.specs.Prelude.{ℕ, ◌+◌, ◌*◌, ◌==◌, nat_lt, Bool, true, false, List, [], ◌∷◌, ◌++◌, length, codes, Option, None, Some, is_some, Result, Ok, Err, if◌then◌else◌}
 use Rattle.std.specs.Str.{bytes_eq}
 use Rattle.posix_acl.specs.AccessList.{AccessList, entry_count, minimal}
-use Rattle.fs_cred.specs.declared.errno.Errno.TheVariants.{EACCES, EINVAL}
+use Rattle.fs_cred.specs.declared.errno.Errno.TheVariants.{EACCES, EINVAL, ENOTDIR}
 use Rattle.fs_model.specs.declared.call.AclType.{AclType}
 use Rattle.fs_model.specs.declared.call.AclType.TheVariants.{Access, Default}
 use Rattle.fs_model.specs.declared.call.Call.TheVariants.{SetAcl}
+use Rattle.fs_model.specs.declared.reply.Reply.{Reply}
+use Rattle.fuse_plans.specs.declared.request_error.RequestError.{RequestError}
 use Rattle.fuse_plans.specs.declared.request_error.RequestError.TheVariants.{Lacks}
-use Rattle.fuse_plans.specs.RequestErrors.{failed}
+use Rattle.fuse_plans.specs.RequestErrors.{failed, is_for}
 use Rattle.fuse_plans.specs.declared.request_error.OtherErrno.TheVariants.{EOPNOTSUPP, ENODATA, ERANGE}
 use Rattle.fuse_plans.specs.declared.request.Asked.{Asked}
 use Rattle.fuse_protocol.specs.declared.reply.Time.{Time}
 use Rattle.fuse_plans.specs.declared.reply.ReplyBody.{ReplyBody}
 use Rattle.fuse_plans.specs.declared.reply.ReplyBody.TheVariants.{Nothing, Bytes, Acl, Size}
-use Rattle.fuse_state.specs.Servers.{Server, kind_known, with_change_time}
-use Rattle.fuse_plans.specs.Works.{Work, give, fail, kept, keep, ◌>>=◌, ◌>>◌, needed}
-use Rattle.fuse_plans.specs.Callers.{caller, is_known_directory, has_dentry, on, look, the_number}
+use Rattle.fuse_state.specs.Servers.{with_change_time}
+use Rattle.fuse_plans.specs.Works.{Work, give, fail, keep, ◌>>=◌, ◌>>◌, attempt, needed}
+use Rattle.fuse_plans.specs.Callers.{who_asks, on, look, the_number}
 use Rattle.fuse_plans.specs.Masks.{acl_of}
-use Rattle.fuse_plans.specs.AttributePlans.{is_known_link}
-use Rattle.fuse_plans.specs.FilePlans.{when}
 
 abbrev pub access_name : List ℕ
 access_name = codes "system.posix_acl_access"
@@ -33,16 +33,6 @@ acl_named name = if bytes_eq name access_name then Some Access else if bytes_eq 
 -- there are no others
 abbrev pub the_acl : List ℕ → Work AclType
 the_acl name = needed (Lacks EOPNOTSUPP) (acl_named name)
-
--- the object is no link, and has a name
-abbrev pub has_acls : Server → ℕ → Bool
-has_acls s n = not (is_known_link (kind_known s n)) && has_dentry s n
-
-abbrev pub an_object : Asked → Work ℕ
-an_object r = do
-  n ← the_number r.node
-  has ← kept (λ s. has_acls s n)
-  if has then give n else fail (Lacks EOPNOTSUPP)
 
 -- ---- what is there
 
@@ -63,7 +53,7 @@ tell_acl n which size = do
 abbrev pub get_xattr : Asked → List ℕ → ℕ → Work ReplyBody
 get_xattr r name size = do
   which ← the_acl name
-  n ← an_object r
+  n ← the_number r.node
   tell_acl n which size
 
 abbrev pub name_if : List ℕ → Bool → List ℕ
@@ -74,25 +64,26 @@ name_if name true = name ++ 0 ∷ []
 abbrev pub acl_names : Bool → Bool → List ℕ
 acl_names access default = name_if access_name access ++ name_if default_name default
 
-abbrev pub attribute_names : ℕ → Bool → Work (List ℕ)
-attribute_names n false = give []
-attribute_names n true = do
-  access ← acl_of n Access
+-- a link has none
+abbrev pub names_if : ℕ → Result (Option AccessList) RequestError → Work (List ℕ)
+names_if n (Ok access) = do
   default ← acl_of n Default
   give (acl_names (is_some access) (is_some default))
+names_if n (Err (Lacks EOPNOTSUPP)) = give []
+names_if n (Err e) = fail e
+
+abbrev pub attribute_names : ℕ → Work (List ℕ)
+attribute_names n = do
+  access ← attempt (acl_of n Access)
+  names_if n access
 
 abbrev pub list_xattrs : Asked → ℕ → Work ReplyBody
 list_xattrs r size = do
   n ← the_number r.node
-  has ← kept (λ s. has_acls s n)
-  names ← attribute_names n has
+  names ← attribute_names n
   sized size (length names) (Bytes names)
 
 -- ---- changes
-
-abbrev pub is_of_default : AclType → Bool
-is_of_default Default = true
-is_of_default Access = false
 
 -- no access ACL: the three entries of the present mode
 abbrev pub is_of_mode_alone : AclType → Option AccessList → Bool
@@ -104,21 +95,20 @@ acl_set n which acl = if is_of_mode_alone which acl then (do
   status ← look n
   give (Some (minimal status.mode))) else give acl
 
--- a process sets it
-abbrev pub set_by : Time → ℕ → ℕ → AclType → Option AccessList → Work ReplyBody
-set_by now pid n which wanted = do
-  acl ← acl_set n which wanted
-  on pid n (λ path. SetAcl path which acl)
-  keep (with_change_time now n)
-  give Nothing
+-- only a directory has a default ACL: EACCES, as setxattr(2) has it
+abbrev pub or_not_for_files : Result Reply RequestError → Work (Unit {0})
+or_not_for_files (Ok reply) = give tt
+or_not_for_files (Err e) = if is_for ENOTDIR e then fail (failed EACCES) else fail e
 
 abbrev pub set_acl : Asked → AclType → Option AccessList → Work ReplyBody
 set_acl r which wanted = do
-  n ← an_object r
-  kind ← kept (λ s. kind_known s n)
-  when (is_of_default which && not (is_known_directory kind)) (fail (failed EACCES))
-  pid ← caller r.cred
-  set_by r.now pid n which wanted
+  n ← the_number r.node
+  cred ← who_asks r.cred
+  acl ← acl_set n which wanted
+  set ← attempt (on cred n (SetAcl [] which acl))
+  or_not_for_files set
+  keep (with_change_time r.now n)
+  give Nothing
 
 abbrev pub set_xattr : Asked → List ℕ → Option (Option AccessList) → Work ReplyBody
 set_xattr r name value = do

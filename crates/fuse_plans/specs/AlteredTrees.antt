@@ -11,11 +11,12 @@ use Rattle.fs_model.specs.declared.event.Event.{Event}
 use Rattle.fs_model.specs.declared.reply.Reply.{Reply}
 use Rattle.fs_model.specs.Births.{the_node}
 use Rattle.fs_model.specs.Nodes.{Node, acl_in, bytes_in, default_in, names_of_body, shown_mode, target_in, type_of}
+use Rattle.fs_model.specs.Processes.{users}
 use Rattle.fs_model.specs.States.{State}
 use Rattle.fs_model.specs.Steps.{Step}
 use Rattle.fs_model.specs.TreeChanges.{Change, Same, Rewrite, Make, AddName, TakeName, MoveName, changed, swept, touches, touched}
 use Rattle.fs_model.specs.Trees.{Tree}
-use Rattle.fuse_plans.specs.Alterations.{Alteration, resizes, resizes_open, writes_open, sets_mode, sets_owner, sets_group, sets_times, sets_list, adds_name, takes_name, moves_name, alterations_in}
+use Rattle.fuse_plans.specs.Alterations.{Alteration, resizes, resizes_open, writes_open, writes_some, sets_mode, sets_owner, sets_group, sets_times, sets_list, adds_name, takes_name, moves_name, alterations_in}
 
 -- ---- of what an alteration is
 
@@ -38,8 +39,9 @@ no_aspect =
 
 abbrev pub aspects_of : Alteration → Aspects
 aspects_of (resizes size) = record no_aspect { bytes = true }
-aspects_of (resizes_open pid fd size) = record no_aspect { bytes = true }
-aspects_of (writes_open pid fd) = record no_aspect { bytes = true }
+aspects_of (resizes_open handle size) = record no_aspect { bytes = true }
+aspects_of (writes_open handle) = record no_aspect { bytes = true }
+aspects_of writes_some = record no_aspect { bytes = true }
 aspects_of sets_mode = record no_aspect { mode = true }
 aspects_of sets_owner = record no_aspect { owner = true }
 aspects_of sets_group = record no_aspect { group = true }
@@ -82,7 +84,7 @@ AltersOnly alterations t (MoveName directory name to_directory to_name) = IsTrue
 pub data LeavesUnsaid (alterations : List Alteration) (old new : State) : Type 0 where
   stays : new.tree ≡ old.tree → LeavesUnsaid alterations old new
   alters : (change : Change) → AltersOnly alterations old.tree change
-      → new.tree ≡ touched old.now (touches old.room old.tree change) (swept (changed old.tree change) new.processes)
+      → new.tree ≡ touched old.now (touches old.room old.tree change) (swept (changed old.tree change) (users new.processes new.openings))
       → LeavesUnsaid alterations old new
 
 -- Each step of the machine, whatever it replies.

@@ -1,11 +1,14 @@
--- Plans of requests for directories. An open directory holds no descriptor of the machine.
+-- Plans of requests for directories. An open directory holds no handle of the machine.
 --     open_directory, take_directory, read_directory, close_directory
-use Rattle.std.specs.Prelude.{ℕ, ◌-◌, ◌==◌, nat_le, Bool, true, false, ◌||◌, List, [], ◌∷◌, length, codes, bytes_eq, Option, Some, if◌then◌else◌}
+use Rattle.std.specs.Prelude.{ℕ, ◌-◌, ◌==◌, nat_le, Bool, true, false, ◌||◌, List, [], ◌∷◌, length, codes, bytes_eq, Option, Some, Result, Ok, Err, if◌then◌else◌}
 use Rattle.std.specs.List.{flat_map}
 use Rattle.posix_acl.specs.Entries.{perms_of}
-use Rattle.fs_cred.specs.declared.errno.Errno.TheVariants.{EACCES, EBADF}
-use Rattle.fs_model.specs.declared.call.Call.TheVariants.{Open as OpenCall, Close, Readdir}
-use Rattle.fs_model.specs.declared.event.Event.TheVariants.{Call as Calls, Sync}
+use Rattle.fs_cred.specs.declared.errno.Errno.TheVariants.{EBADF}
+use Rattle.fs_model.specs.declared.call.Call.TheVariants.{Open as OpenCall, Access}
+use Rattle.fs_model.specs.declared.event.Event.TheVariants.{CallBy, Sync}
+use Rattle.fs_model.specs.declared.event.HandleCall.TheVariants as by_handle
+use Rattle.fs_model.specs.declared.reply.Reply.{Reply}
+use Rattle.fuse_plans.specs.declared.request_error.RequestError.{RequestError}
 use Rattle.fuse_plans.specs.declared.request_error.RequestError.TheVariants.{Lacks}
 use Rattle.fuse_plans.specs.RequestErrors.{failed}
 use Rattle.fuse_plans.specs.declared.request_error.OtherErrno.TheVariants.{ENFILE, ESTALE}
@@ -21,12 +24,10 @@ use Rattle.fuse_plans.specs.declared.reply.ReplyBody.TheVariants.{Nothing, Opene
 use Rattle.fuse_state.specs.declared.settings.Settings.{Settings}
 use Rattle.fuse_state.specs.Servers.{Server, may_open_directory, directory_of, listing_of, with_opened, with_listing, without_directory}
 use Rattle.fuse_state.specs.declared.directory.OpenDirectory.{OpenDirectory}
-use Rattle.fuse_plans.specs.Works.{Work, give, fail, kept, keep, ◌>>=◌, ◌>>◌, attempt, needed, obtain, or_closed, replied_fd, replied_names}
-use Rattle.fuse_plans.specs.Callers.{the_server_process, has_dentry, on, the_number, directory_number}
+use Rattle.fuse_plans.specs.Works.{Work, give, fail, kept, keep, ◌>>=◌, ◌>>◌, ask, attempt, of_result, needed, obtain, replied_opened, replied_names}
+use Rattle.fuse_plans.specs.Callers.{server_credential, who_asks, on, the_number}
 use Rattle.fuse_plans.specs.Flags.{listing}
 use Rattle.fuse_plans.specs.ListingOrder.{in_order, behind}
-use Rattle.fuse_plans.specs.FilePlans.{when}
-use Rattle.fuse_plans.specs.AttributePlans.{access_as}
 
 -- the kernel may keep the listing, and go on in it by the offsets of another one: KEEP_CACHE and CACHE_DIR
 abbrev pub directory_flags : Settings → OpenedFlags
@@ -48,13 +49,19 @@ take_directory uid node = do
   may ← kept (λ s. may_open_directory s uid)
   take_directory_if uid node may
 
--- Asks for reading, as who asks; of a directory that was removed nothing is asked.
+-- a directory that was removed has no names, and of it nothing is asked
+abbrev pub or_removed : Result Reply RequestError → Work (Unit {0})
+or_removed (Ok reply) = give tt
+or_removed (Err (Lacks ESTALE)) = give tt
+or_removed (Err e) = fail e
+
+-- asks for reading, as who asks
 abbrev pub open_directory : Asked → Work ReplyBody
 open_directory r = do
-  n ← directory_number r.node
-  cred ← needed (failed EACCES) r.cred
-  placed ← kept (λ s. has_dentry s n)
-  when placed (access_as r.cred n (perms_of 4))
+  n ← the_number r.node
+  cred ← who_asks r.cred
+  read ← attempt (on cred n (Access [] (perms_of 4)))
+  or_removed read
   take_directory cred.uid r.node
 
 -- ---- listings
@@ -78,31 +85,30 @@ fitting size (e ∷ es) =
 abbrev pub listing_bytes : ℕ → List (ℕ × (List ℕ × ℕ)) → List ℕ
 listing_bytes size names = flat_map directory_entry_bytes (fitting size names)
 
-unfoldable pub tell_names : ℕ → ℕ → Work (List (List ℕ × ℕ))
-tell_names pid fd = do
-  reply ← obtain (Calls pid (Readdir fd))
+unfoldable pub tell_names : ℕ → Work (List (List ℕ × ℕ))
+tell_names handle = do
+  reply ← obtain (CallBy handle by_handle.List)
   replied_names reply
 
--- the names in what is open; where it tells none that is closed
-unfoldable pub list_open : ℕ → ℕ → Work (List (List ℕ × ℕ))
-list_open pid fd = do
-  seen ← attempt (tell_names pid fd)
-  or_closed pid fd seen
-
 -- the names in what was opened, and then it is closed
-abbrev pub list_and_close : ℕ → ℕ → Work (List (List ℕ × ℕ))
-list_and_close pid fd = do
-  names ← list_open pid fd
-  obtain (Calls pid (Close fd))
-  give names
+abbrev pub list_and_close : ℕ → Work (List (List ℕ × ℕ))
+list_and_close handle = do
+  names ← attempt (tell_names handle)
+  ask (CallBy handle by_handle.Close)
+  of_result names
 
-abbrev pub list_all : ℕ → Bool → Work (List (List ℕ × ℕ))
-list_all n false = give []
-list_all n true = do
-  pid ← the_server_process
-  with_opened ← on pid n (λ path. OpenCall path listing 0)
-  fd ← replied_fd with_opened
-  list_and_close pid fd
+abbrev pub list_opened : Result Reply RequestError → Work (List (List ℕ × ℕ))
+list_opened (Ok reply) = do
+  opened ← replied_opened reply
+  list_and_close opened.0
+list_opened (Err (Lacks ESTALE)) = give []
+list_opened (Err e) = fail e
+
+-- the names in a directory, as the server sees them; none where it was removed
+unfoldable pub list_all : ℕ → Work (List (List ℕ × ℕ))
+list_all n = do
+  opened ← attempt (on server_credential n (OpenCall [] listing 0))
+  list_opened opened
 
 -- once the directory is gone another may have its number
 abbrev pub only_node : ℕ → ℕ → Work (Unit {0})
@@ -113,8 +119,7 @@ abbrev pub list_now : ℕ → ℕ → ℕ → Work (List (List ℕ × ℕ))
 list_now node handle opened = do
   n ← the_number node
   only_node opened node
-  placed ← kept (λ s. has_dentry s n)
-  names ← list_all n placed
+  names ← list_all n
   keep (with_listing handle (in_order names))
   give (in_order names)
 

@@ -1,7 +1,7 @@
 -- Flags: how a request opens a file, and how the machine does.
 --     mode_in        for reading, for writing, or for both
 --     opening, making, creating, listing        the machine's flags
---     is_exec, is_excl, is_trunc
+--     is_exec, is_excl, is_trunc, reads_alone        what else it says
 use Rattle.std.specs.Prelude.{ℕ, ◌==◌, Bool, true, false, not, Option, None, Some, if◌then◌else◌, bit_and}
 use Rattle.std.proofs.Common.{refl}
 use Rattle.fs_model.specs.declared.call.Flags.{Flags}
@@ -22,6 +22,11 @@ is_excl flags = not (bit_and flags 0o200 == 0)
 
 abbrev pub is_trunc : ℕ → Bool
 is_trunc flags = not (bit_and flags 0o1000 == 0)
+
+-- nothing but to read: neither to write, nor that it lose its bytes
+abbrev pub reads_alone : ℕ → Mode → Bool
+reads_alone flags Reads = not (is_trunc flags)
+reads_alone flags _ = false
 
 abbrev reading : Flags
 reading = record { read = true; write = false; create = false; excl = false; trunc = false; append = false; nofollow = false; directory = false; opens = refl }

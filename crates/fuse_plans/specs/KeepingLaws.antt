@@ -1,7 +1,7 @@
 -- What the kernel may keep of names, whatever is replied.
 --     name_valid_in        for how many seconds a name is told
 --     MayKeepName, NamesAreKeptWhereJudged        a name, or that nothing has it
---     IsRefusedForAbsence, IsMissing, OnlyMissingNamesAreAbsent        that nothing has it
+--     IsMissing, OnlyMissingNamesAreAbsent        that nothing has it
 use Rattle.std.specs.Prelude.{◌≡◌, ℕ, ◌<◌, true, false, List, ◌++◌, Option, Some, Ok, IsTrue}
 use Rattle.fs_cred.specs.declared.errno.Errno.TheVariants.{ENOENT}
 use Rattle.fs_cred.specs.declared.refusal.Refusal.{Refusal}
@@ -22,7 +22,7 @@ use Rattle.fuse_plans.specs.Masks.{list_hides}
 use Rattle.fuse_plans.specs.Nobody.{is_judged}
 use Rattle.fuse_plans.specs.Times.{tell_time}
 use Rattle.fuse_plans.specs.Serving.{request_plan}
-use Rattle.fuse_plans.specs.Laws.{IsDoneBy}
+use Rattle.fuse_plans.specs.Laws.{IsByServer}
 
 -- for so many seconds the kernel may keep a name, or that nothing has it; 0 where none is told
 abbrev pub name_valid_in : ReplyBody → ℕ
@@ -37,7 +37,7 @@ pub data MayKeepName (r : Request) (s : Server) : List Event → List Reply → 
   -- who looks a name up doesn't count
   is_looked_up : (name : List ℕ) (first after : List Event) (replied rest : List Reply) → r.operation ≡ Some (Lookup name)
       → IsRunOf (is_judged r.node true s) first replied true → MayKeepName r s (first ++ after) (replied ++ rest)
-  -- what has the name is new, and the server's own process has seen the directory before
+  -- what has the name is new, and the server has seen the directory before
   is_new : (d : ℕ) (t : Server) (first after : List Event) (replied rest : List Reply) → number_of_node s r.node ≡ Some d
       → IsRunOf ((tell_time r.now >> list_hides d) s) first replied (Ok false, t) → MayKeepName r s (first ++ after) (replied ++ rest)
 
@@ -47,23 +47,17 @@ NamesAreKeptWhereJudged =
     (r : Request) (s t : Server) (body : ReplyBody) (es : List Event) (replies : List Reply) → 0 < name_valid_in body
     → IsRunOf (request_plan r s) es replies (Says body, t) → IsTrue s.settings.posix_acl × MayKeepName r s es replies
 
--- A process was refused, since nothing has the name.
-pub record IsRefusedForAbsence (pid : ℕ) (es : List Event) (replies : List Reply) : Type 0 where
+-- The server was refused, since nothing has the name.
+pub record IsMissing (es : List Event) (replies : List Reply) : Type 0 where
   pub event : Event
-  pub is_by : IsDoneBy pid event
+  pub is_by : IsByServer event
   pub refusal : Refusal
   pub after : List Event
   pub asked : IsAsked event (Refused refusal) after es replies
   pub for_absence : IsTrue (is_for ENOENT (Refuses refusal))
 
--- The server's own process was.
-pub record IsMissing (server_process : Option ℕ) (es : List Event) (replies : List Reply) : Type 0 where
-  pub pid : ℕ
-  pub own : server_process ≡ Some pid
-  pub refused : IsRefusedForAbsence pid es replies
-
--- Whatever was replied: it is told that nothing has a name only where that process finds nothing.
+-- Whatever was replied: it is told that nothing has a name only where the server finds nothing.
 abbrev pub OnlyMissingNamesAreAbsent : Type 0
 OnlyMissingNamesAreAbsent =
     (r : Request) (s t : Server) (valid : ℕ) (es : List Event) (replies : List Reply)
-    → IsRunOf (request_plan r s) es replies (Says (Absent valid), t) → IsMissing s.server_process es replies
+    → IsRunOf (request_plan r s) es replies (Says (Absent valid), t) → IsMissing es replies

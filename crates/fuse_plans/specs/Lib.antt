@@ -3,7 +3,6 @@ pub mod RequestErrors
 pub mod Requests
 pub mod Works
 pub mod Times
-pub mod Paths
 pub mod Callers
 pub mod Flags
 pub mod ListingOrder
@@ -23,6 +22,8 @@ pub mod Alterations
 pub mod AlteredTrees
 pub mod Laws
 pub mod ShareLaws
+pub mod KeepingDue
 pub mod KeepingLaws
 pub mod ListingLaws
 pub mod TimeLaws
+pub mod Confinement

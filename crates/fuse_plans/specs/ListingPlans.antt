@@ -1,7 +1,7 @@
 -- The plan of READDIRPLUS: a directory is listed as by READDIR, and each name that fits is looked up as by LOOKUP.
 --     names_within        the names that fit
 --     bounded        as much as is told at once
---     find_listed, look_up_names        what the server's own process finds under a name, and under several
+--     find_listed, look_up_names        what the server finds under a name, and under several
 --     told_record, records_bytes        the record of a name by what was found, and those of several
 --     read_directory_plus        the request
 use Rattle.std.specs.Prelude.{ℕ, ◌-◌, min, nat_le, Bool, List, [], ◌∷◌, length, Option, None, Some, Result, Ok, if◌then◌else◌}
@@ -22,7 +22,7 @@ use Rattle.fuse_plans.specs.declared.request_error.RequestError.{RequestError}
 use Rattle.fuse_plans.specs.RequestErrors.{failed}
 use Rattle.fuse_plans.specs.Protocol.{looked_up_entry}
 use Rattle.fuse_plans.specs.Works.{Work, give, fail, ◌>>=◌, ◌>>◌, attempt, of_result}
-use Rattle.fuse_plans.specs.Callers.{the_server_process, standing_directory}
+use Rattle.fuse_plans.specs.Callers.{server_credential, the_number}
 use Rattle.fuse_plans.specs.NamePlans.{plain_name, find_inside}
 use Rattle.fuse_plans.specs.DirectoryPlans.{listed_entry, list_kept}
 use Rattle.fuse_plans.specs.ListingOrder.{behind}
@@ -52,14 +52,13 @@ longest_name = 255
 abbrev pub short_name : List ℕ → Work (Unit {0})
 short_name name = if nat_le (length name) longest_name then give tt else fail (failed EINVAL)
 
--- What the server's own process finds under a name in a directory, where that stands. It may be kept as long as what LOOKUP tells. The
--- directory itself and its parent aren't looked up.
+-- What the server finds under a name in a directory. It may be kept as long as what LOOKUP tells. The directory itself and its parent
+-- aren't looked up.
 abbrev pub find_in_place : Bool → Result ℕ RequestError → List ℕ → Work ReplyBody
 find_in_place nobody place name = do
   plain_name name
   d ← of_result place
-  pid ← the_server_process
-  find_inside nobody pid d name
+  find_inside nobody server_credential d name
 
 abbrev pub find_listed : Bool → Result ℕ RequestError → List ℕ → Work ReplyBody
 find_listed nobody place name = do
@@ -112,6 +111,6 @@ tell_looked_up nobody place extent names = do
 
 unfoldable pub read_directory_plus : Bool → ℕ → Extent → Work ReplyBody
 read_directory_plus nobody node extent = do
-  place ← attempt (standing_directory node)
+  place ← attempt (the_number node)
   names ← list_kept node extent
   tell_looked_up nobody place extent names

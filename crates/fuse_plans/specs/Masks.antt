@@ -1,18 +1,18 @@
--- A directory whose access list Linux doesn't follow, as the server's own process sees it.
---     acl_of        an ACL of an object
+-- A directory whose access list Linux doesn't follow, as the server sees it.
+--     list_of, acl_of        an ACL of an object, and where it says more than the mode
 --     may_hide, hides        of a mode, and of a list
 --     list_hides        of a directory
 --     is_masked        of that of a node
-use Rattle.std.specs.Prelude.{ℕ, ◌==◌, Bool, false, not, ◌&&◌, Option, None, Some, if◌then◌else◌, bit_and}
+use Rattle.std.specs.Prelude.{ℕ, ◌==◌, Bool, false, not, ◌&&◌, [], Option, None, Some, if◌then◌else◌, bit_and}
 use Rattle.posix_acl.specs.declared.entry.Perms.{Perms}
 use Rattle.posix_acl.specs.AccessList.{AccessList, is_extended}
 use Rattle.posix_acl.specs.Entries.{digit_of}
 use Rattle.fs_model.specs.declared.call.AclType.{AclType}
 use Rattle.fs_model.specs.declared.call.AclType.TheVariants.{Access, Default}
-use Rattle.fs_model.specs.declared.call.Call.TheVariants.{Lstat, GetAcl}
+use Rattle.fs_model.specs.declared.call.Call.TheVariants.{GetAcl}
 use Rattle.fs_model.specs.declared.reply.Status.{Status}
-use Rattle.fuse_plans.specs.Works.{Work, give, ◌>>=◌, replied_status, replied_acl}
-use Rattle.fuse_plans.specs.Callers.{by_server_process, directory_number}
+use Rattle.fuse_plans.specs.Works.{Work, give, ◌>>=◌, replied_acl}
+use Rattle.fuse_plans.specs.Callers.{server_credential, on, look, the_number}
 
 -- an access ACL with three entries says no more than the mode
 abbrev pub told_acl : AclType → Option AccessList → Option AccessList
@@ -20,10 +20,14 @@ told_acl Access (Some a) = if is_extended a then Some a else None
 told_acl Default acl = acl
 told_acl Access None = None
 
+abbrev pub list_of : ℕ → AclType → Work (Option AccessList)
+list_of n which = do
+  reply ← on server_credential n (GetAcl [] which)
+  replied_acl reply
+
 abbrev pub acl_of : ℕ → AclType → Work (Option AccessList)
 acl_of n which = do
-  reply ← by_server_process n (λ path. GetAcl path which)
-  acl ← replied_acl reply
+  acl ← list_of n which
   give (told_acl which acl)
 
 -- a mode grants the group class nothing, and others search
@@ -39,12 +43,6 @@ abbrev pub hides : Option AccessList → Bool
 hides None = false
 hides (Some acl) = grants_nothing acl.mask && acl.other.execute
 
--- what stat(2) shows the server's own process
-abbrev pub seen_by_server_process : ℕ → Work Status
-seen_by_server_process n = do
-  reply ← by_server_process n Lstat
-  replied_status reply
-
 -- only where there may be such a list it is asked for
 abbrev pub asks_list : ℕ → Status → Work Bool
 asks_list n status = if may_hide status.mode then (do
@@ -53,10 +51,10 @@ asks_list n status = if may_hide status.mode then (do
 
 abbrev pub list_hides : ℕ → Work Bool
 list_hides n = do
-  status ← seen_by_server_process n
+  status ← look n
   asks_list n status
 
 unfoldable pub is_masked : ℕ → Work Bool
 is_masked node = do
-  n ← directory_number node
+  n ← the_number node
   list_hides n

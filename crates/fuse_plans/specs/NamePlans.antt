@@ -1,10 +1,12 @@
--- Plans of requests for names: each is asked of a directory, and performed by a process of who asks, but for look-ups that need nobody.
+-- Plans of requests for names: each is asked of a directory, and performed as who asks, but for look-ups that need nobody.
 --     find_name, make_link, make_file, make_directory, remove, move_name, add_link
-use Rattle.std.specs.Prelude.{ℕ, ◌==◌, nat_lt, Bool, true, false, not, ◌&&◌, ◌||◌, List, codes, bytes_eq, Option, Some, Result, Ok, Err, if◌then◌else◌, bit_and}
+use Rattle.std.specs.Prelude.{ℕ, ◌==◌, nat_lt, Bool, true, false, not, ◌&&◌, ◌||◌, List, [], codes, bytes_eq, Option, None, Some, Result, Ok, Err, if◌then◌else◌, bit_and}
+use Rattle.fs_cred.specs.Credentials.{Credential}
 use Rattle.fs_cred.specs.declared.errno.Errno.TheVariants.{EPERM, ENOENT, EEXIST, EINVAL}
 use Rattle.fs_model.specs.declared.call.Call.{Call}
-use Rattle.fs_model.specs.declared.call.Call.TheVariants.{Open as OpenCall, Close, Lstat, Mkdir, Rmdir, Link as LinkCall, Symlink, Rename as RenameCall, Umask, Unlink}
-use Rattle.fs_model.specs.declared.event.Event.TheVariants.{Call as Calls}
+use Rattle.fs_model.specs.declared.call.Call.TheVariants.{Open as OpenCall, Lstat, Mkdir, Rmdir, Link as LinkCall, Symlink, Rename as RenameCall, Unlink}
+use Rattle.fs_model.specs.declared.event.Event.TheVariants.{CallAt, CallBy}
+use Rattle.fs_model.specs.declared.event.HandleCall.TheVariants as by_handle
 use Rattle.fs_model.specs.declared.reply.Reply.{Reply}
 use Rattle.fs_model.specs.declared.reply.Stamps.{Stamps}
 use Rattle.fs_model.specs.declared.reply.Status.{Status}
@@ -17,21 +19,18 @@ use Rattle.fuse_protocol.specs.declared.reply.Time.{Time}
 use Rattle.fuse_plans.specs.declared.reply.ReplyBody.{ReplyBody}
 use Rattle.fuse_plans.specs.declared.reply.ReplyBody.TheVariants.{Nothing, Found, Absent}
 use Rattle.fuse_plans.specs.declared.reply.Attributes.{Attributes}
-use Rattle.fuse_state.specs.Servers.{Server, node_of, kind_known, dentries_of, once_more, with_new_object}
-use Rattle.fuse_state.specs.Changes.{with_found, removed, moved, linked}
-use Rattle.fuse_state.specs.declared.dentry.Dentry.{Dentry}
+use Rattle.fuse_state.specs.Servers.{Server, node_of}
+use Rattle.fuse_state.specs.Changes.{with_new_object, removed, moved, linked}
 use Rattle.fuse_state.specs.declared.settings.Settings.{Settings}
-use Rattle.fuse_plans.specs.Works.{Work, give, fail, kept, keep, ◌>>=◌, ◌>>◌, attempt, obtain, replied_fd}
-use Rattle.fuse_plans.specs.Callers.{caller, caller_with_room, the_server_process, inside, done_between, by_dentries, look_inside, look, the_number, standing_directory}
-use Rattle.fuse_plans.specs.Flags.{making}
-use Rattle.fuse_plans.specs.Times.{told_stamps, times_in}
+use Rattle.fuse_plans.specs.Works.{Work, give, fail, kept, keep, ◌>>=◌, ◌>>◌, ask, attempt, obtain, replied_opened, replied_number}
+use Rattle.fuse_plans.specs.Callers.{server_credential, actor_at, who_asks, inside, look_inside, look, the_number}
 use Rattle.fuse_plans.specs.Masks.{list_hides}
+use Rattle.fuse_plans.specs.Flags.{making}
+use Rattle.fuse_plans.specs.Times.{disk_keeps_times, told_stamps, times_in}
 
--- the directory and a name in it
-abbrev pub dentry : ℕ → List ℕ → Dentry
-dentry directory name = record { dir_ino = directory; name = name }
+-- ---- names, and what is told of them
 
--- Nobody asks for `.` or `..` by name.
+-- Nobody asks for `.` or `..` by name: the kernel resolves these itself.
 abbrev pub plain_name : List ℕ → Work (Unit {0})
 plain_name name = if bytes_eq name (codes ".") || bytes_eq name (codes "..") then fail (failed EINVAL) else give tt
 
@@ -39,7 +38,7 @@ plain_name name = if bytes_eq name (codes ".") || bytes_eq name (codes "..") the
 abbrev pub directory_for : ℕ → List ℕ → Work ℕ
 directory_for node name = do
   plain_name name
-  standing_directory node
+  the_number node
 
 -- the times are the machine's, where it has any
 abbrev pub attributes : Server → Status → Option Stamps → Attributes
@@ -52,9 +51,16 @@ found_body name_valid status stamps s = Found (node_of s status.ino) name_valid 
 abbrev pub tell_entry : ℕ → Status → Option Stamps → Work ReplyBody
 tell_entry name_valid status stamps = kept (found_body name_valid status stamps)
 
+-- what stat(2) shows of an object that has a name, and its times
+abbrev pub tell_named : ℕ → ℕ → Work ReplyBody
+tell_named name_valid n = do
+  status ← look n
+  stamps ← told_stamps status.ino
+  tell_entry name_valid status stamps
+
 -- ---- look-ups
 
--- a directory that was removed has no names
+-- a directory that is gone has no names
 abbrev pub or_absent : Result ℕ RequestError → Work ℕ
 or_absent (Ok n) = give n
 or_absent (Err (Lacks ESTALE)) = fail (failed ENOENT)
@@ -64,7 +70,7 @@ or_absent (Err e) = fail e
 abbrev pub searched_directory : ℕ → List ℕ → Work ℕ
 searched_directory node name = do
   plain_name name
-  known ← attempt (standing_directory node)
+  known ← attempt (the_number node)
   or_absent known
 
 -- where the kernel has judged it may keep the name
@@ -81,30 +87,29 @@ keeps_absent nobody settings e = nobody && (is_for ENOENT e && not (settings.kee
 abbrev pub or_keep_absent : Bool → Settings → RequestError → Work ReplyBody
 or_keep_absent nobody settings e = if keeps_absent nobody settings e then give (Absent settings.keeping.absent) else fail e
 
-abbrev pub found_or_absent : Bool → ℕ → List ℕ → Result Status RequestError → Work ReplyBody
-found_or_absent nobody d name (Ok status) = do
+abbrev pub found_or_absent : Bool → Result Status RequestError → Work ReplyBody
+found_or_absent nobody (Ok status) = do
   stamps ← told_stamps status.ino
-  keep (with_found (dentry d name) status.ino status.kind)
   kept (looked_up_body nobody status stamps)
-found_or_absent nobody d name (Err e) = do
+found_or_absent nobody (Err e) = do
   settings ← kept (λ s. s.settings)
   or_keep_absent nobody settings e
 
--- what a process finds under the name
-abbrev pub find_inside : Bool → ℕ → ℕ → List ℕ → Work ReplyBody
-find_inside nobody pid d name = do
-  seen ← attempt (look_inside pid d name)
-  found_or_absent nobody d name seen
+-- what someone finds under the name
+abbrev pub find_inside : Bool → Credential → ℕ → List ℕ → Work ReplyBody
+find_inside nobody cred d name = do
+  seen ← attempt (look_inside cred d name)
+  found_or_absent nobody seen
 
--- where the kernel has judged, the server's own process looks
-abbrev pub searcher : Asked → Work ℕ
-searcher r = if r.needs_nobody then the_server_process else caller r.cred
+-- where the kernel has judged, the server looks
+abbrev pub searcher : Asked → Work Credential
+searcher r = if r.needs_nobody then give server_credential else who_asks r.cred
 
 abbrev pub find_name : Asked → List ℕ → Work ReplyBody
 find_name r name = do
   d ← searched_directory r.node name
-  pid ← searcher r
-  find_inside r.needs_nobody pid d name
+  cred ← searcher r
+  find_inside r.needs_nobody cred d name
 
 -- ---- new objects
 
@@ -129,71 +134,30 @@ new_valid d = do
   settings ← kept (λ s. s.settings)
   new_valid_if d settings.keeping.names (keeps_names settings)
 
--- what has just been made, as the server's own process sees it
-unfoldable pub made : Time → ℕ → ℕ → List ℕ → Work ReplyBody
-made now name_valid d name = do
-  pid ← the_server_process
-  status ← look_inside pid d name
-  stamps ← told_stamps status.ino
-  keep (with_new_object now (dentry d name) status.ino status.kind)
-  tell_entry name_valid status stamps
+-- The number of what has been made in a directory counts once more, whether or not it can be shown.
+unfoldable pub tell_made : Time → ℕ → ℕ → ℕ → Work ReplyBody
+tell_made now name_valid d n = do
+  keep (with_new_object now d n)
+  tell_named name_valid n
 
-abbrev pub close : ℕ → ℕ → Work (Unit {0})
-close pid fd = do
-  obtain (Calls pid (Close fd))
-  give tt
-
--- what the call opens is closed
-abbrev pub open_and_close : ℕ → ℕ → Call → Work (Unit {0})
-open_and_close pid d call = do
-  reply ← inside pid d call
-  fd ← replied_fd reply
-  close pid fd
-
-abbrev pub opens : Call → Bool
-opens (OpenCall path flags mode) = true
-opens _ = false
-
--- a call in a directory, after which nothing is open
-abbrev pub done_closed : ℕ → ℕ → Call → Work (Unit {0})
-done_closed pid d call = if opens call then open_and_close pid d call else done_between pid d d call
-
--- a call makes what has the name then
-abbrev pub make_by : Time → ℕ → ℕ → ℕ → Call → List ℕ → Work ReplyBody
-make_by now name_valid pid d call name = do
-  done_closed pid d call
-  made now name_valid d name
-
--- the directory of a name that is asked for, and a process of who asks
-abbrev pub directory_and_caller : Asked → List ℕ → Work (ℕ × ℕ)
-directory_and_caller r name = do
-  d ← directory_for r.node name
-  pid ← caller r.cred
-  give (d, pid)
+-- who asks makes something with this mask in a directory
+abbrev pub make_by : Asked → ℕ → ℕ → Call → Work ReplyBody
+make_by r d umask call = do
+  name_valid ← new_valid d
+  cred ← who_asks r.cred
+  reply ← obtain (CallAt (actor_at cred umask d d) call)
+  n ← replied_number reply
+  tell_made r.now name_valid d n
 
 abbrev pub make_link : Asked → List ℕ → List ℕ → Work ReplyBody
 make_link r name target = do
   d ← directory_for r.node name
-  name_valid ← new_valid d
-  pid ← caller r.cred
-  make_by r.now name_valid pid d (Symlink target name) name
-
--- new objects of the process are made with this mask from now on
-abbrev pub set_umask : ℕ → ℕ → Work Reply
-set_umask pid umask = obtain (Calls pid (Umask (bit_and umask 0o777)))
-
--- a call makes what has the name, once new objects of the process are made with a mask
-abbrev pub make_masked : Time → ℕ → ℕ → ℕ → ℕ → Call → List ℕ → Work ReplyBody
-make_masked now name_valid umask pid d call name = do
-  set_umask pid umask
-  make_by now name_valid pid d call name
+  make_by r d 0 (Symlink target name)
 
 abbrev pub make_directory : Asked → List ℕ → ℕ → ℕ → Work ReplyBody
 make_directory r name mode umask = do
   d ← directory_for r.node name
-  name_valid ← new_valid d
-  pid ← caller r.cred
-  make_masked r.now name_valid umask pid d (Mkdir name (bit_and mode 0o7777)) name
+  make_by r d (bit_and umask 0o777) (Mkdir name (bit_and mode 0o7777))
 
 -- the type in a mode is that of a file, or none
 abbrev pub is_of_file : ℕ → Bool
@@ -202,13 +166,21 @@ is_of_file mode = bit_and mode 0o170000 == 0 || bit_and mode 0o170000 == 0o10000
 abbrev pub only_file : ℕ → Work (Unit {0})
 only_file mode = if is_of_file mode then give tt else fail (failed EPERM)
 
+-- a file is made as it is opened, and that is closed
+abbrev pub make_closed : Asked → ℕ → ℕ → Call → Work ReplyBody
+make_closed r d umask call = do
+  name_valid ← new_valid d
+  cred ← who_asks r.cred
+  reply ← obtain (CallAt (actor_at cred umask d d) call)
+  opened ← replied_opened reply
+  ask (CallBy opened.0 by_handle.Close)
+  tell_made r.now name_valid d opened.1
+
 abbrev pub make_file : Asked → List ℕ → ℕ → ℕ → Work ReplyBody
 make_file r name mode umask = do
   only_file mode
   d ← directory_for r.node name
-  name_valid ← new_valid d
-  pid ← caller_with_room r.cred
-  make_masked r.now name_valid umask pid d (OpenCall name making (bit_and mode 0o777)) name
+  make_closed r d (bit_and umask 0o777) (OpenCall name making (bit_and mode 0o777))
 
 -- ---- names that go
 
@@ -217,12 +189,30 @@ abbrev pub removal : Bool → List ℕ → Call
 removal true name = Rmdir name
 removal false name = Unlink name
 
+abbrev pub number_shown : Result Status RequestError → Option ℕ
+number_shown (Ok status) = Some status.ino
+number_shown (Err e) = None
+
+-- Where the server keeps times it has to know which object loses or gets a name.
+abbrev pub number_named_if : Bool → ℕ → List ℕ → Work (Option ℕ)
+number_named_if true d name = give None
+number_named_if false d name = do
+  seen ← attempt (look_inside server_credential d name)
+  give (number_shown seen)
+
+unfoldable pub number_named : ℕ → List ℕ → Work (Option ℕ)
+number_named d name = do
+  keeps ← disk_keeps_times
+  number_named_if keeps d name
+
 -- with unlink or rmdir
 abbrev pub remove : Asked → (List ℕ → Call) → List ℕ → Work ReplyBody
 remove r call name = do
-  who ← directory_and_caller r name
-  done_between who.1 who.0 who.0 (call name)
-  keep (removed r.now (dentry who.0 name))
+  d ← directory_for r.node name
+  cred ← who_asks r.cred
+  gone ← number_named d name
+  inside cred d (call name)
+  keep (removed r.now d gone)
   give Nothing
 
 -- the one flag is that nothing may be replaced
@@ -233,9 +223,9 @@ abbrev pub none_there : Result Reply RequestError → Work (Unit {0})
 none_there (Ok reply) = fail (failed EEXIST)
 none_there (Err e) = if is_for ENOENT e then give tt else fail e
 
-abbrev pub nothing_to_replace : ℕ → ℕ → ℕ → List ℕ → Work (Unit {0})
-nothing_to_replace flags pid d name = if flags == 0 then give tt else do
-  there ← attempt (inside pid d (Lstat name))
+abbrev pub nothing_to_replace : ℕ → Credential → ℕ → List ℕ → Work (Unit {0})
+nothing_to_replace flags cred d name = if flags == 0 then give tt else do
+  there ← attempt (inside cred d (Lstat name))
   none_there there
 
 -- names that may be asked for, and flags
@@ -245,50 +235,31 @@ may_move name new_name flags = do
   plain_name name
   plain_name new_name
 
--- what has the one dentry gets the other
-abbrev pub rename : Time → ℕ → Dentry → Dentry → Work ReplyBody
-rename now pid old new = do
-  done_between pid old.dir_ino new.dir_ino (RenameCall old.name new.name)
-  keep (moved now old new)
+-- what has the one name gets the other
+abbrev pub rename : Time → Credential → ℕ → List ℕ → ℕ → List ℕ → Work ReplyBody
+rename now cred d name new new_name = do
+  object ← number_named d name
+  replaced ← number_named new new_name
+  obtain (CallAt (actor_at cred 0 d new) (RenameCall name new_name))
+  keep (moved now d new object replaced)
   give Nothing
-
--- what has the one dentry gets the other, if it may replace what is there
-abbrev pub move_to : Time → ℕ → ℕ → Dentry → ℕ → List ℕ → Work ReplyBody
-move_to now flags pid old new new_name = do
-  nothing_to_replace flags pid new new_name
-  rename now pid old (dentry new new_name)
 
 abbrev pub move_name : Asked → List ℕ → ℕ → List ℕ → ℕ → Work ReplyBody
 move_name r name new_node new_name flags = do
   may_move name new_name flags
-  d ← standing_directory r.node
-  new ← standing_directory new_node
-  pid ← caller r.cred
-  move_to r.now flags pid (dentry d name) new new_name
+  d ← the_number r.node
+  new ← the_number new_node
+  cred ← who_asks r.cred
+  nothing_to_replace flags cred new new_name
+  rename r.now cred d name new new_name
 
--- an object gets one more name, by one of those that are known
-unfoldable pub link_by_dentry : ℕ → ℕ → ℕ → List ℕ → Work (Unit {0})
-link_by_dentry pid n d name = do
-  dentries ← kept (λ s. dentries_of s n)
-  by_dentries pid (Some d) (λ old. LinkCall old name) (failed ENOENT) dentries
-  give tt
-
--- Once the object has the name too. The kernel may not keep that: of the directory nothing was seen.
-abbrev pub tell_linked : Time → Dentry → ℕ → Work ReplyBody
-tell_linked now p n = do
-  kind ← kept (λ s. kind_known s n)
-  keep (linked now p n kind)
-  status ← look n
-  stamps ← told_stamps status.ino
-  keep (once_more status.ino)
-  tell_entry 0 status stamps
-
--- who asks gives an object one more name
+-- Who asks gives an object one more name. The kernel may not keep that: of the directory nothing was seen.
 abbrev pub link_as : Asked → ℕ → ℕ → List ℕ → Work ReplyBody
 link_as r n d name = do
-  pid ← caller r.cred
-  link_by_dentry pid n d name
-  tell_linked r.now (dentry d name) n
+  cred ← who_asks r.cred
+  obtain (CallAt (actor_at cred 0 n d) (LinkCall [] name))
+  keep (linked r.now d n)
+  tell_named 0 n
 
 abbrev pub add_link : Asked → ℕ → List ℕ → Work ReplyBody
 add_link r old_node name = do

@@ -1,29 +1,33 @@
 -- Who counts of those who ask: a first plan of each request, in which that doesn't count yet.
---     changes_by_caller        what a process of who asks is to change
---     needs_caller        what is done by a process of who asks, and what may fail for its credential
+--     changes_by_caller        what who asks is to change
+--     needs_caller        what is done as who asks, and what may fail for its credential
 --     needs_nobody        of an operation
---     owns_object, is_owner        the user owns what is to be read
+--     asks_alone        what is asked of an object, and nothing else
+--     grants_user        a user is granted it, whatever its groups and capabilities are
 --     who_counts        of an operation
 --     who_counts_in        of a request
-use Rattle.std.specs.Prelude.{ℕ, ◌==◌, Bool, true, false, not, ◌&&◌, codes, Option, None, Some, Result, Ok, Err, bit_and}
+use Rattle.std.specs.Prelude.{ℕ, ◌==◌, Bool, true, false, not, ◌&&◌, ◌||◌, List, [], ◌∷◌, Option, None, Some, Result, Ok, Err, if◌then◌else◌, bit_and}
+use Rattle.std.specs.List.{filter}
+use Rattle.posix_acl.specs.declared.entry.Perms.{Perms}
+use Rattle.posix_acl.specs.AccessList.{AccessList}
+use Rattle.posix_acl.specs.Entries.{perms_of}
+use Rattle.fs_cred.specs.Permissions.{holds}
+use Rattle.fs_model.specs.declared.call.AclType.TheVariants.{Access as AccessAcl}
 use Rattle.fs_model.specs.declared.reply.Status.{Status}
 use Rattle.fuse_protocol.specs.declared.operation.Operation.{Operation}
 use Rattle.fuse_protocol.specs.declared.operation.Operation.TheVariants.{Lookup, SetAttr, SymLink, MkNod, MkDir, Unlink, RmDir, Rename, Link, Open, SetXAttr, RemoveXAttr, OpenDir, ReadDirPlus, Access, Create}
-use Rattle.fuse_state.specs.Servers.{Server, dentry_of}
+use Rattle.fuse_state.specs.Servers.{Server}
 use Rattle.fuse_plans.specs.declared.mode.Mode.{Mode}
-use Rattle.fuse_plans.specs.declared.mode.Mode.TheVariants.{Reads}
 use Rattle.fuse_plans.specs.declared.request.WhoCounts.{WhoCounts}
 use Rattle.fuse_plans.specs.declared.request.WhoCounts.TheVariants.{Nobody, User, Process}
 use Rattle.fuse_plans.specs.declared.request_error.RequestError.{RequestError}
-use Rattle.fuse_plans.specs.declared.request_error.RequestError.TheVariants.{Lacks}
-use Rattle.fuse_plans.specs.declared.request_error.OtherErrno.TheVariants.{ESTALE}
-use Rattle.fuse_plans.specs.Works.{Work, give, kept, ◌>>=◌, needed}
-use Rattle.fuse_plans.specs.Flags.{mode_in, is_exec, is_trunc}
-use Rattle.fuse_plans.specs.Callers.{the_number, the_server_process, look_inside}
+use Rattle.fuse_plans.specs.Works.{Work, give, ◌>>=◌}
+use Rattle.fuse_plans.specs.Flags.{mode_in, is_exec, reads_alone}
+use Rattle.fuse_plans.specs.Callers.{the_number, look}
 use Rattle.fuse_plans.specs.Plans.{Plan, Finish, followed_by}
-use Rattle.fuse_plans.specs.Masks.{is_masked, seen_by_server_process}
+use Rattle.fuse_plans.specs.Masks.{is_masked, list_of}
 
--- what a process of who asks is to change
+-- what who asks is to change
 abbrev pub changes_by_caller : Operation → Bool
 changes_by_caller (SetAttr changes) = true
 changes_by_caller (SymLink name target) = true
@@ -38,7 +42,7 @@ changes_by_caller (RemoveXAttr name) = true
 changes_by_caller (Create name flags mode umask) = true
 changes_by_caller _ = false
 
--- what is done by a process of who asks, and what may fail for its credential
+-- what is done as who asks, and what may fail for its credential
 abbrev pub needs_caller : Operation → Bool
 needs_caller (Lookup name) = true
 needs_caller (Open flags) = true
@@ -67,43 +71,60 @@ needs_nobody node operation s = Finish (not (needs_caller operation))
 
 -- ---- whether the user alone counts
 
--- nothing but to read: neither to run a file, nor that it lose its bytes
-abbrev pub reads_alone : ℕ → Option Mode → Bool
-reads_alone flags (Some Reads) = not (is_exec flags) && not (is_trunc flags)
-reads_alone flags _ = false
+-- what opening asks where nothing is to change: to run a file, or to read it
+abbrev pub asks_to_open : ℕ → Option Mode → Option Perms
+asks_to_open flags None = None
+asks_to_open flags (Some mode) = if reads_alone flags mode then Some (perms_of (if is_exec flags then 1 else 4)) else None
 
-abbrev pub asks_reading : Operation → Bool
-asks_reading (Open flags) = reads_alone flags.0 (mode_in flags.0)
-asks_reading OpenDir = true
-asks_reading _ = false
+-- what is asked of the object of the node, where nothing else is asked, and nothing changes
+abbrev pub asks_alone : Operation → Option Perms
+asks_alone (Lookup name) = Some (perms_of 1)
+asks_alone (Open flags) = asks_to_open flags.0 (mode_in flags.0)
+asks_alone OpenDir = Some (perms_of 4)
+asks_alone (Access mask) = Some (perms_of (bit_and mask 7))
+asks_alone _ = None
 
-abbrev pub owner_reads : ℕ
-owner_reads = 0o400
+abbrev pub all_hold : List (ℕ × Perms) → Perms → Bool
+all_hold [] want = true
+all_hold (e ∷ es) want = holds e.1 want && all_hold es want
 
-abbrev pub owner_searches : ℕ
-owner_searches = 0o100
+-- the entries for a user by its number
+abbrev pub entries_for : ℕ → AccessList → List (ℕ × Perms)
+entries_for uid acl = filter (λ e. e.0 == uid) acl.users
 
--- the user owns what was shown, and its mode grants the owner this
-abbrev pub grants_owner : ℕ → ℕ → Status → Bool
-grants_owner uid bit status = status.owner == uid && not (bit_and status.mode bit == 0)
+-- a named entry counts behind a mask
+abbrev pub mask_holds : Option Perms → Perms → Bool
+mask_holds None want = false
+mask_holds (Some mask) want = holds mask want
 
--- the object is looked at only where the directory is the user's
-abbrev pub owns_object : ℕ → ℕ → Bool → Work Bool
-owns_object n uid false = give false
-owns_object n uid true = do
-  status ← seen_by_server_process n
-  give (grants_owner uid owner_reads status)
+-- there is no mask, or it holds all of want
+abbrev pub mask_passes : Option Perms → Perms → Bool
+mask_passes None want = true
+mask_passes (Some mask) want = holds mask want
 
--- The user owns the object of a node, and the directory in which it is asked for first; and the owner may read the one, and search the
--- other. Then the owner's entry decides of both, whatever groups and capabilities a process of this user has.
-unfoldable pub is_owner : ℕ → ℕ → Work Bool
-is_owner node uid = do
+-- whichever groups someone is in, or none
+abbrev pub grants_members : AccessList → Perms → Bool
+grants_members acl want = holds acl.group want && (all_hold acl.groups want && (mask_passes acl.mask want && holds acl.other want))
+
+abbrev pub grants_named : List (ℕ × Perms) → AccessList → Perms → Bool
+grants_named [] acl want = grants_members acl want
+grants_named (e ∷ es) acl want = all_hold (e ∷ es) want && mask_holds acl.mask want
+
+-- By acl(5), with any groups and any capabilities: as the owner, as a named user, or else as a member of each group and of none.
+abbrev pub grants_user : ℕ → ℕ → AccessList → Perms → Bool
+grants_user owner uid acl want = if owner == uid then holds acl.owner want else grants_named (entries_for uid acl) acl want
+
+abbrev pub is_granted_by : ℕ → ℕ → Perms → Option AccessList → Bool
+is_granted_by owner uid want None = false
+is_granted_by owner uid want (Some acl) = grants_user owner uid acl want
+
+-- as the server sees the object of a node
+unfoldable pub is_granted : ℕ → ℕ → Perms → Work Bool
+is_granted node uid want = do
   n ← the_number node
-  found ← kept (λ s. dentry_of s n)
-  dentry ← needed (Lacks ESTALE) found
-  pid ← the_server_process
-  above ← look_inside pid dentry.dir_ino (codes ".")
-  owns_object n uid (grants_owner uid owner_searches above)
+  status ← look n
+  acl ← list_of n AccessAcl
+  give (is_granted_by status.owner uid want acl)
 
 -- ---- who counts
 
@@ -111,15 +132,15 @@ abbrev pub or_process : Result Bool RequestError → WhoCounts
 or_process (Ok true) = User
 or_process _ = Process
 
--- what is read by its owner may be read whatever the process is
-abbrev pub or_user : Bool → Bool → ℕ → ℕ → Server → Plan WhoCounts
-or_user true reading node uid s = Finish Nobody
-or_user false false node uid s = Finish Process
-or_user false true node uid s = followed_by (is_owner node uid s) (λ r. Finish (or_process r.0))
+-- what a user is granted whatever the process is
+abbrev pub or_user : Bool → Option Perms → ℕ → ℕ → Server → Plan WhoCounts
+or_user true asks node uid s = Finish Nobody
+or_user false None node uid s = Finish Process
+or_user false (Some want) node uid s = followed_by (is_granted node uid want s) (λ r. Finish (or_process r.0))
 
 -- of an operation of a node that this user asks for
 abbrev pub who_counts : ℕ → ℕ → Operation → Server → Plan WhoCounts
-who_counts node uid operation s = followed_by (needs_nobody node operation s) (λ nobody. or_user nobody (asks_reading operation) node uid s)
+who_counts node uid operation s = followed_by (needs_nobody node operation s) (λ nobody. or_user nobody (asks_alone operation) node uid s)
 
 -- where the body isn't of its form nothing is asked for it
 abbrev pub who_counts_in : ℕ → ℕ → Option Operation → Server → Plan WhoCounts

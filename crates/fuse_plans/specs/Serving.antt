@@ -2,12 +2,13 @@
 --     Task, plan_of        of an operation
 --     answered_as        the answer, once it is known whether who asks counts
 --     request_plan        of a request, with its answer
+--     is_due, keep_due, keep_due_in        what was done is made to last, where that is due
+--     served_plan        of a request, behind what is due
 --     requests_plan        of several, one after another
-use Rattle.std.specs.Prelude.{ℕ, ◌+◌, ◌/◌, nat_lt, min, ◌==◌, Bool, true, false, not, List, [], ◌∷◌, Option, None, Some, Result, Ok, Err, if◌then◌else◌, bit_and}
+use Rattle.std.specs.Prelude.{ℕ, ◌+◌, ◌/◌, nat_lt, nat_le, min, ◌==◌, ◌&&◌, ◌||◌, Bool, true, false, not, List, [], ◌∷◌, Option, None, Some, Result, Ok, Err, if◌then◌else◌, bit_and}
 use Rattle.posix_acl.specs.AccessList.{AccessList}
-use Rattle.fs_cred.specs.Credentials.{usual_credential}
 use Rattle.fs_cred.specs.declared.errno.Errno.TheVariants.{EINVAL, ENOMEM}
-use Rattle.fs_model.specs.declared.event.Event.TheVariants.{Spawn, Statfs}
+use Rattle.fs_model.specs.declared.event.Event.TheVariants.{Statfs, Sync}
 use Rattle.fuse_plans.specs.Plans.{Plan, Finish, followed_by}
 use Rattle.fuse_plans.specs.declared.request_error.RequestError.{RequestError}
 use Rattle.fuse_plans.specs.declared.request_error.RequestError.TheVariants.{Lacks}
@@ -23,14 +24,14 @@ use Rattle.fuse_plans.specs.declared.reply.ReplyBody.{ReplyBody}
 use Rattle.fuse_plans.specs.declared.reply.ReplyBody.TheVariants.{Space, Agreed}
 use Rattle.fuse_plans.specs.declared.reply.Response.{Response}
 use Rattle.fuse_plans.specs.declared.reply.Response.TheVariants.{Silence, Says, Fails}
-use Rattle.fuse_state.specs.Servers.{Server, forgotten, all_forgotten, with_the_server_process, with_acls_offered, with_end}
+use Rattle.fuse_state.specs.Servers.{Server, with_acls_offered, with_end, with_kept_at}
 use Rattle.fuse_state.specs.declared.settings.Settings.{Settings}
-use Rattle.fuse_plans.specs.Works.{Work, give, fail, kept, keep, ◌>>=◌, ◌>>◌, obtain, replied_pid, replied_space}
+use Rattle.fuse_plans.specs.Works.{Work, give, fail, kept, keep, ◌>>=◌, ◌>>◌, ask, obtain, replied_space}
 use Rattle.fuse_plans.specs.Alterations.{says_change}
 use Rattle.fuse_plans.specs.Nobody.{who_counts_in, is_nobody}
 use Rattle.fuse_plans.specs.Times.{tell_time}
 use Rattle.fuse_plans.specs.NamePlans.{find_name, make_link, make_file, make_directory, remove, removal, move_name, add_link}
-use Rattle.fuse_plans.specs.FilePlans.{open_file, create_file, read_file, write_file, close_file, sync_file}
+use Rattle.fuse_plans.specs.FilePlans.{open_file, create_file, read_file, write_file, close_file}
 use Rattle.fuse_plans.specs.AttributePlans.{get_attributes, set_attributes, read_link, ask_access}
 use Rattle.fuse_plans.specs.DirectoryPlans.{open_directory, read_directory, close_directory, sync_all}
 use Rattle.fuse_plans.specs.ListingPlans.{read_directory_plus}
@@ -70,20 +71,11 @@ agreed offer settings = terms offer.max_readahead (bit_and offer.flags.0 (wanted
 abbrev pub later_version : ReplyBody
 later_version = terms 0 0 0 0
 
-abbrev pub or_server_process : Option ℕ → Work (Unit {0})
-or_server_process (Some pid) = give tt
-or_server_process None = do
-  reply ← obtain (Spawn (usual_credential 0 0 []))
-  pid ← replied_pid reply
-  keep (with_the_server_process pid)
-
 abbrev pub offers_acls : Offer → Bool
 offers_acls offer = not (bit_and offer.flags.0 0x100000 == 0)
 
 unfoldable pub begin : Offer → Work ReplyBody
 begin offer = if nat_lt offer.major 7 then fail (Lacks EPROTO) else if nat_lt 7 offer.major then give later_version else do
-  server_process ← kept (λ s. s.server_process)
-  or_server_process server_process
   keep (with_acls_offered (offers_acls offer))
   kept (λ s. agreed offer s.settings)
 
@@ -100,15 +92,15 @@ end = do
 
 -- ---- each operation
 
--- What an operation takes: work, whose result is replied; or nothing of the machine and no reply, but a change of what the server keeps.
+-- What an operation takes: work, whose result is replied; or nothing, and no reply: nodes need not be forgotten, since none is kept.
 pub data Task : Type 0 where
   Replying : Work ReplyBody → Task
-  Silently : (Server → Server) → Task
+  Silent : Task
 
 -- The value of an attribute is that of the request.
 abbrev pub plan_of : Asked → Option (Option AccessList) → Operation → Task
 plan_of r value (Lookup name) = Replying (find_name r name)
-plan_of r value (Forget count) = Silently (forgotten r.node count)
+plan_of r value (Forget count) = Silent
 plan_of r value GetAttr = Replying (get_attributes r)
 plan_of r value (SetAttr changes) = Replying (set_attributes r changes)
 plan_of r value ReadLink = Replying (read_link r)
@@ -121,10 +113,10 @@ plan_of r value (Rename name new_directory new_name flags) = Replying (move_name
 plan_of r value (Link node name) = Replying (add_link r node name)
 plan_of r value (Open flags) = Replying (open_file r flags.0)
 plan_of r value (Read extent) = Replying (read_file extent)
-plan_of r value (Write handle offset bytes) = Replying (write_file r handle offset bytes)
+plan_of r value (Write handle offset bytes) = Replying (write_file r.now handle offset bytes)
 plan_of r value StatFs = Replying count_space
 plan_of r value (Release handle) = Replying (close_file handle)
-plan_of r value (FSync handle) = Replying (sync_file handle)
+plan_of r value (FSync handle) = Replying sync_all
 plan_of r value (SetXAttr name bytes) = Replying (set_xattr r name value)
 plan_of r value (GetXAttr name size) = Replying (get_xattr r name size)
 plan_of r value (ListXAttr size) = Replying (list_xattrs r size)
@@ -137,9 +129,9 @@ plan_of r value (ReleaseDir handle) = Replying (close_directory handle)
 plan_of r value FSyncDir = Replying sync_all
 plan_of r value (Access mask) = Replying (ask_access r mask)
 plan_of r value (Create name flags mode umask) = Replying (create_file r name flags.0 mode umask)
-plan_of r value Interrupt = Silently (λ s. s)
+plan_of r value Interrupt = Silent
 plan_of r value Destroy = Replying end
-plan_of r value (BatchForget batch) = Silently (all_forgotten batch)
+plan_of r value (BatchForget batch) = Silent
 plan_of r value SyncFs = Replying sync_all
 plan_of r value Unknown = Replying (fail (Lacks ENOSYS))
 
@@ -147,7 +139,7 @@ plan_of r value Unknown = Replying (fail (Lacks ENOSYS))
 abbrev pub told_first : Bool → Time → Task → Task
 told_first false now task = task
 told_first true now (Replying w) = Replying (tell_time now >> w)
-told_first true now (Silently f) = Silently f
+told_first true now Silent = Silent
 
 -- of a request whose body may not be of its form
 abbrev pub asked_for : Asked → Option (Option AccessList) → Option Operation → Task
@@ -162,8 +154,7 @@ response_of (Err e) = Fails e
 
 -- Where memory is lacking for what is added, nothing is asked, and nothing changes.
 abbrev pub answered : Bool → Task → Server → Plan (Response × Server)
-answered true (Silently f) s = Finish (Silence, f s)
-answered false (Silently f) s = Finish (Silence, s)
+answered memory Silent s = Finish (Silence, s)
 answered true (Replying w) s = followed_by (w s) (λ r. Finish (response_of r.0, r.1))
 answered false (Replying w) s = Finish (Fails (failed ENOMEM), s)
 
@@ -174,9 +165,39 @@ answered_as nobody r s = answered r.memory (asked_for (asked_of r nobody) r.valu
 unfoldable pub request_plan : Request → Server → Plan (Response × Server)
 request_plan r s = followed_by (who_counts_in r.node r.uid r.operation s) (λ who. answered_as (is_nobody who) r s)
 
+-- ---- what is due
+
+-- So many seconds have passed since the server itself made all last, or the clock was set back.
+abbrev pub is_due : Server → Time → Bool
+is_due s now = nat_lt 0 s.settings.commit && (nat_lt now.seconds s.kept_at.seconds || nat_le (s.kept_at.seconds + s.settings.commit) now.seconds)
+
+-- whatever is replied: a machine that can't make all last has halted
+abbrev pub keep_due_if : Bool → Time → Work (Unit {0})
+keep_due_if false now = give tt
+keep_due_if true now = do
+  ask Sync
+  keep (with_kept_at now)
+
+-- all is made to last, where that is due
+unfoldable pub keep_due : Time → Work (Unit {0})
+keep_due now = do
+  due ← kept (λ s. is_due s now)
+  keep_due_if due now
+
+-- where the body isn't of its form nothing is asked for it
+abbrev pub keep_due_in : Option Operation → Time → Work (Unit {0})
+keep_due_in None now = give tt
+keep_due_in (Some operation) now = keep_due now
+
+-- First what is due is done, whoever asks and whatever for.
+unfoldable pub served_plan : Request → Server → Plan (Response × Server)
+served_plan r s = followed_by (keep_due_in r.operation r.now s) (λ u. request_plan r u.1)
+
+-- ---- several requests
+
 -- One after another: what each is answered, and what the server keeps then.
 unfoldable pub requests_plan : List Request → Server → Plan (List Response × Server)
 requests_plan [] s = Finish ([], s)
 requests_plan (r ∷ rs) s =
-    followed_by (request_plan r s)
+    followed_by (served_plan r s)
     (λ first. followed_by (requests_plan rs first.1) (λ rest. Finish (first.0 ∷ rest.0, rest.1)))

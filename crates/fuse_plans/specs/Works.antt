@@ -1,27 +1,26 @@
 -- Pieces of plans, which read and change what a server keeps.
 --     Work        what is asked of the machine, and then a value, or why there is none, and what the server keeps
 --     give, fail, kept, keep, ◌>>=◌, ◌>>◌, attempt        those that ask nothing, one after another, and with their error as a value
---     ask, obtain, or_closed        one event; a refusal as an error; and what is open is closed before an error
+--     ask, obtain, or_closed        one event; a refusal as an error; and what is open by a handle is closed before an error
 --     refusal_in, is_refused_for        whether a reply refuses
 --     status_of_reply, replied_status, ..        what a reply holds
-use Rattle.std.specs.Prelude.{ℕ, nat_le, nat_lt, Bool, false, ◌&&◌, List, length, Option, None, Some, Result, Ok, Err, if◌then◌else◌}
+use Rattle.std.specs.Prelude.{ℕ, nat_le, Bool, false, List, length, Option, None, Some, Result, Ok, Err, if◌then◌else◌}
 use Rattle.posix_acl.specs.AccessList.{AccessList}
 use Rattle.fs_cred.specs.declared.errno.Errno.{Errno}
 use Rattle.fs_cred.specs.declared.errno.Errno.TheVariants.{EIO}
 use Rattle.fs_cred.specs.declared.refusal.Refusal.{Refusal}
-use Rattle.fs_model.specs.declared.call.Call.TheVariants.{Close}
 use Rattle.fs_model.specs.declared.event.Event.{Event}
-use Rattle.fs_model.specs.declared.event.Event.TheVariants.{Call as Calls}
+use Rattle.fs_model.specs.declared.event.Event.TheVariants.{CallBy}
+use Rattle.fs_model.specs.declared.event.HandleCall.TheVariants as by_handle
 use Rattle.fs_model.specs.declared.reply.Reply.{Reply}
-use Rattle.fs_model.specs.declared.reply.Reply.TheVariants.{Pid, Fd, Data, Wrote, Target, Shown, Acl, Names, Space, Stamped, Refused}
+use Rattle.fs_model.specs.declared.reply.Reply.TheVariants.{Data, Wrote, Target, Shown, Acl, Names, Space, Stamped, Opened, Made, Refused}
 use Rattle.fs_model.specs.declared.reply.Stamps.{Stamps}
 use Rattle.fs_model.specs.declared.reply.Status.{Status}
-use Rattle.fs_model.specs.Limits.{descriptors_limit, processes_limit}
 use Rattle.fuse_plans.specs.Plans.{Plan, Finish, Ask, followed_by}
 use Rattle.fuse_plans.specs.declared.request_error.RequestError.{RequestError}
 use Rattle.fuse_plans.specs.declared.request_error.RequestError.TheVariants.{Refuses}
 use Rattle.fuse_plans.specs.RequestErrors.{failed, is_for}
-use Rattle.fuse_state.specs.Servers.{Server, handle_of}
+use Rattle.fuse_state.specs.Servers.{Server}
 
 -- What was done before an error stays.
 abbrev pub Work : Type 0 → Type 0
@@ -90,21 +89,14 @@ unless_refused reply = give_unless reply (refusal_in reply)
 abbrev pub obtain : Event → Work Reply
 obtain e = ask e >>= unless_refused
 
--- Where the work failed the process closes what it has opened.
-abbrev pub or_closed : {X : Type 0} → ℕ → ℕ → Result X RequestError → Work X
-or_closed pid fd (Ok x) = give x
-or_closed pid fd (Err e) = ask (Calls pid (Close fd)) >> fail e
+-- Where the work failed what was opened is closed.
+abbrev pub or_closed : {X : Type 0} → ℕ → Result X RequestError → Work X
+or_closed handle (Ok x) = give x
+or_closed handle (Err e) = ask (CallBy handle by_handle.Close) >> fail e
 
 -- Replies of another form never come.
 abbrev pub unexpected : RequestError
 unexpected = failed EIO
-
-abbrev pub pid_of_reply : Reply → Option ℕ
-pid_of_reply (Pid pid) = Some pid
-pid_of_reply _ = None
-
-abbrev pub replied_pid : Reply → Work ℕ
-replied_pid reply = needed unexpected (pid_of_reply reply)
 
 abbrev pub status_of_reply : Reply → Option Status
 status_of_reply (Shown status) = Some status
@@ -121,20 +113,21 @@ stamps_of_reply _ = None
 abbrev pub replied_stamps : Reply → Work Stamps
 replied_stamps reply = needed unexpected (stamps_of_reply reply)
 
-abbrev pub fd_of_reply : Reply → Option ℕ
-fd_of_reply (Fd fd) = Some fd
-fd_of_reply _ = None
+-- the handle of what was opened, and its inode
+abbrev pub opened_of_reply : Reply → Option (ℕ × ℕ)
+opened_of_reply (Opened handle n) = Some (handle, n)
+opened_of_reply _ = None
 
-abbrev pub replied_fd : Reply → Work ℕ
-replied_fd reply = needed unexpected (fd_of_reply reply)
+abbrev pub replied_opened : Reply → Work (ℕ × ℕ)
+replied_opened reply = needed unexpected (opened_of_reply reply)
 
--- the handle of a process's descriptor; processes have the numbers from 1 on
-abbrev pub handle_within : ℕ → Option ℕ → Option ℕ
-handle_within pid None = None
-handle_within pid (Some fd) = if nat_le pid processes_limit && nat_lt fd descriptors_limit then Some (handle_of pid fd) else None
+-- the inode of what was made
+abbrev pub number_of_reply : Reply → Option ℕ
+number_of_reply (Made n) = Some n
+number_of_reply _ = None
 
-abbrev pub replied_handle : ℕ → Reply → Work ℕ
-replied_handle pid reply = needed unexpected (handle_within pid (fd_of_reply reply))
+abbrev pub replied_number : Reply → Work ℕ
+replied_number reply = needed unexpected (number_of_reply reply)
 
 -- so many bytes at most
 abbrev pub within : ℕ → Option (List ℕ) → Option (List ℕ)

@@ -1,32 +1,28 @@
 //! The laws of the plans: each is the contract of a function that does nothing.
 ghost use Rattle.fuse_plans.specs.KeepingLaws.{NamesAreKeptWhereJudged, OnlyMissingNamesAreAbsent};
+ghost use Rattle.fuse_plans.specs.KeepingDue.{DueIsKeptFirst, NothingIsKeptBefore, RequestsAreKeptInTime, RequestsLeaveTheClock, UndueIsRecent};
 ghost use Rattle.fuse_plans.specs.ListingLaws.{ListingsGoOn, NamesKeepTheirOffsets};
 ghost use Rattle.fuse_plans.specs.TimeLaws.{TimesAreSetByRight};
-ghost use Rattle.fuse_plans.specs.ShareLaws.{RequestsKeepShares, ProcessesAreFound, DirectoriesAreFound};
+ghost use Rattle.fuse_plans.specs.ShareLaws.{RequestsKeepShares, DirectoriesAreFound};
 ghost use Rattle.fuse_plans.specs.AlteredTrees.{StepsChangeWhatIsSaid};
-ghost use Rattle.fuse_plans.specs.Laws.{BeginningBehaves, FailuresChangeNothing, JudgedLookupsAreGranted, OpenedIsTheObject, OwnersAreGranted, OwnersCountAlone, OthersChangeNothing, OthersKeepTimes, RequestsBehave, RequestsChangeWhatTheySay, RunsChangeWhatRequestsSay, RunsBehave, ToldNodesLeadToObjects, WhoAsksCountsOnlyWhereNeeded};
+ghost use Rattle.fuse_plans.specs.Confinement.{RequestRunsConfined, RequestsConfined};
+ghost use Rattle.fuse_plans.specs.Laws.{FailuresChangeNothing, JudgedLookupsAreGranted, MakingsAreCounted, OpenedIsTheObject, OpeningsAreTold, OthersChangeNothing, OthersKeepTimes, RequestsBehave, RequestsChangeWhatTheySay, RunsChangeWhatRequestsSay, RunsBehave, ToldNodesLeadToObjects, UsersAreGranted, UsersCountAlone, WhoAsksCountsOnlyWhereNeeded};
 
-/// Whatever the machine replies, no request but the first is performed with more than the rights of who asks.
+/// Whatever the machine replies, no request is performed with more than the rights of who asks.
 ///
-/// Each call is made by a process whose credential is that of who asks, through the handle that the request gives, or by the
-/// server's own process, which only looks; or it is fstat(2) of something open, which is shown to all. A process that has
-/// entered a directory makes its calls there, and is told to come back before anything else is asked. Nothing is asked of the
-/// disk, and no process changes its directory by a call.
+/// Each call is made as who asks, or by the server, which only looks at what stat(2) and readlink(2) show, at ACLs and at names; and it opens
+/// for reading what who asks was granted to run. What is done by a handle is done by the one that the request gives, which a RELEASE
+/// closes, and no other request. Only where a request gives none it uses one that it has opened: that is listed at most, and closed.
+/// Nothing is asked of the disk, nor of a process.
 ///
-/// Each call acts on what the request is about, as the server knew it when the request began: on a name that the request gives, in
-/// the directory of its node, where that is the root or has a name; on the name by which the server knew the object of the node; or
-/// on the object itself, by a process that stands in it. Who has entered no directory may also make a call on a descriptor, or on
-/// the root, where that is the object. A name is added, taken or moved only where the request gives it.
+/// Each call acts on what the request is about, as the server knew it when the request began: on the object of its node; on a name that
+/// the request gives, in the directory of its node; or on what was opened or made for it. A name is added, taken or moved only where the
+/// request gives it.
 pub fn requests_behave()
     ensures { RequestsBehave }
 {}
 
-/// The first request asks no more than a process of user 0 may ask about what the request is about.
-pub fn beginning_behaves()
-    ensures { BeginningBehaves }
-{}
-
-/// What was asked for each request but the first, with the replies that were given, is what may be asked.
+/// What was asked for each request, with the replies that were given, is what may be asked.
 pub fn what_is_asked_may_be()
     ensures { RunsBehave }
 {}
@@ -55,9 +51,11 @@ pub fn requests_change_what_they_say()
 
 /// Where UNLINK, RMDIR, RENAME, OPEN, SETXATTR or REMOVEXATTR fails, nothing has changed.
 ///
-/// Each call that they asked for, and that changes names, bytes or attributes, was refused, whatever else was replied.
+/// Each call that they asked for, and that changes names, bytes or attributes, was refused, whatever else was replied. Of the call
+/// that opens this supposes that what was opened is replied, or why nothing was: the machine replies nothing else.
 pub fn failures_change_nothing()
-    ensures { FailuresChangeNothing }
+    ensures failures { FailuresChangeNothing }
+    ensures told { OpeningsAreTold }
 {}
 
 /// By no event the machine changes more of its tree than `alterations_by` says of the call.
@@ -72,29 +70,27 @@ pub fn steps_change_what_is_said()
 
 /// Whatever the machine replies, times of an object are set only by right, where the disk keeps them.
 ///
-/// The machine sets times without asking who it is for. So the object was shown before, by the number of its inode, and who asks
-/// counts as its owner; or no other time is set than the present, and a process of who asks has asked access(2) whether it may
-/// write, and wasn't refused. [`requests_behave`] says that this was asked of the object that the request is about. The ctime is
-/// always set to the present.
+/// The machine sets times without asking who it is for. So the object was shown before, and who asks counts as its owner; or no other time
+/// is set than the present, and who asks has asked access(2) whether it may write to the object, and wasn't refused. [`requests_behave`]
+/// says that it is the object that the request is about. The ctime is always set to the present.
 pub fn times_are_set_by_right()
     ensures { TimesAreSetByRight }
 {}
 
 /// What an OPEN has opened is the object of its node.
 ///
-/// The process of the handle has asked fstat(2) of its descriptor, and the inode that was shown has the number of the node: so a
-/// name that leads elsewhere is ESTALE, and never another file.
+/// The machine has opened the object that has the number of the node, and has given that handle for it; nothing else was asked then.
 pub fn opened_is_the_object()
     ensures { OpenedIsTheObject }
 {}
 
 /// The node that is told of a name, where that is looked up or what is made gets it, leads to the inode that was shown.
 ///
-/// Where the object that had the inode's number may have been no more when the request began - the kernel was told of it, but none of
-/// its names was left, and it wasn't open - the node led nowhere before. So the node of an object that is gone doesn't lead to
-/// another, also where that was made by a request that couldn't show it, and was answered with an error.
+/// And each inode counts how often its number was given to a new object, whatever the request is answered: the count is part of a node, so
+/// the node of an object that is gone doesn't lead to another.
 pub fn told_nodes_lead_to_objects()
-    ensures { ToldNodesLeadToObjects }
+    ensures lead { ToldNodesLeadToObjects }
+    ensures counted { MakingsAreCounted }
 {}
 
 /// Where a request was found to need nobody, its plan is the same whoever asks: their process isn't even looked for.
@@ -102,42 +98,38 @@ pub fn who_asks_counts_only_where_needed()
     ensures { WhoAsksCountsOnlyWhereNeeded }
 {}
 
-/// Groups and capabilities of who asks to read are passed over only where they don't count.
+/// Groups and capabilities of who asks are passed over only where they don't count.
 ///
-/// Then nothing but to read is asked for, and the server's own process was shown a directory that the user owns and may search as its
-/// owner, and an object that the user owns and may read as that. And by the access check of acl(5) such an owner is granted this with any
-/// groups and any capabilities.
-pub fn owners_need_no_groups()
-    ensures shown { OwnersCountAlone }
-    ensures granted { OwnersAreGranted }
+/// Then nothing but one permission is asked of the object of the node: to read it, to run it, to search it, or what access(2) asks. And the
+/// server was shown the object, with a list that grants this to the user as its owner, as a named user, or else as a member of each group
+/// and of none. By the access check of acl(5) it is granted then with any groups and any capabilities.
+pub fn users_need_no_groups()
+    ensures shown { UsersCountAlone }
+    ensures granted { UsersAreGranted }
 {}
 
 /// Where the kernel judges by modes and lists before it asks, no look-up is answered EACCES, whoever asks and whether their groups are
 /// known or not; so the kernel drops no name, and unmounts nothing below it.
 ///
 /// There are two exceptions. In a directory whose access list has the mask `---` while others may search, the caller is judged, since
-/// Linux asks the entry for others there. And the machine may refuse the server's own process.
+/// Linux asks the entry for others there. And the machine may refuse the server itself.
 pub fn judged_lookups_are_granted()
     ensures { JudgedLookupsAreGranted }
 {}
 
-/// Whatever the machine replies to requests, no user holds more processes or open directories than it may: others find theirs.
+/// Whatever the machine replies to requests, no user opens more directories than it may: others open theirs.
 ///
-/// A user who has no file open finds a process for one, as long as fewer than 12 users have files open; and user 0 does, as long as
-/// fewer than 4 of its processes have some. That needs a machine that refuses processes only where it has 64. For what opens nothing
-/// each user finds a process. A user who has no directory open may open one, as long as fewer than 40 users have; and user 0 may, as
-/// long as it has fewer than 16.
+/// A user who has no directory open may open one, as long as fewer than 40 users have; and user 0 may, as long as it has fewer than 16.
 pub fn shares_are_found()
     ensures kept { RequestsKeepShares }
-    ensures processes { ProcessesAreFound }
     ensures directories { DirectoriesAreFound }
 {}
 
 /// Whatever the machine replies, the kernel may keep a name only where it judges before it asks, and by a list that it follows.
 ///
-/// A name that is looked up it may keep where who asks doesn't count. A new name it may keep where the server's own process was shown,
-/// before the name was made, a directory whose access list hasn't the mask `---` while others may search. That nothing has a name it
-/// may keep only where that process was refused for it.
+/// A name that is looked up it may keep where who asks doesn't count. A new name it may keep where the server was shown, before the name
+/// was made, a directory whose access list hasn't the mask `---` while others may search. That nothing has a name it may keep only where
+/// the server was refused for it.
 pub fn names_are_kept_where_judged()
     ensures kept { NamesAreKeptWhereJudged }
     ensures absent { OnlyMissingNamesAreAbsent }
@@ -153,4 +145,36 @@ pub fn names_are_kept_where_judged()
 pub fn listings_go_on()
     ensures goes_on { ListingsGoOn }
     ensures offsets { NamesKeepTheirOffsets }
+{}
+
+/// What was done is made to last so many seconds and one request later at most, whatever is asked meanwhile.
+///
+/// Where that is due when a request comes, a sync of all is asked first, whoever asks and whatever for. From then on the server counts
+/// from the time of that request. The reply isn't looked at: a machine that can't sync has halted.
+///
+/// Where it isn't due nothing is asked for it. Then less than so many seconds have passed since the server made all last, or began; and
+/// the clock wasn't set back to before that. A request itself never moves the time that is counted from. So it is known where, among
+/// all that is asked for requests one after another, a sync comes.
+pub fn what_is_due_is_kept_first()
+    ensures first { DueIsKeptFirst }
+    ensures undue { NothingIsKeptBefore }
+    ensures recent { UndueIsRecent }
+    ensures clock { RequestsLeaveTheClock }
+    ensures in_time { RequestsAreKeptInTime }
+{}
+
+/// What a user of a mount can't read has no part in what their requests are answered, now or later.
+///
+/// A request of a user is performed from two states that differ only in bytes of files that they don't own, aren't granted to read, and
+/// haven't opened for reading, with the same free choices. The same is asked of both and replied by both, the response is the same, and so
+/// is what the server keeps. Then the two states are alike to the user, with the handles that they have opened and not closed, and these
+/// are open. So it is with requests one after another, each with the handles that they have then. In between they may also be given a handle
+/// that was opened with another credential, as by the server or by their user alone, of a file that they see into then.
+///
+/// The user lacks CAP_FOWNER and CAP_CHOWN, by which they could make files their own. A request that says a change has their credential,
+/// where one is known; all others may be anyone's. What is done by a handle is done by one of theirs, but for RELEASE. So of a file that the
+/// server opens for them to be run, and that they can't read, it isn't said what a READ is answered. And neither memory nor the disk fails.
+pub fn unreadable_bytes_do_not_show_in_answers()
+    ensures one { RequestsConfined }
+    ensures several { RequestRunsConfined }
 {}

@@ -10,10 +10,11 @@ mod request;
 mod request_error;
 
 pub use laws::{
-    beginning_behaves, failures_change_nothing, judged_lookups_are_granted, listings_go_on,
-    names_are_kept_where_judged, opened_is_the_object, owners_need_no_groups, requests_behave,
+    failures_change_nothing, judged_lookups_are_granted, listings_go_on,
+    names_are_kept_where_judged, opened_is_the_object, requests_behave,
     requests_change_what_they_say, shares_are_found, steps_change_what_is_said,
-    times_are_set_by_right, told_nodes_lead_to_objects, what_is_asked_may_be,
+    times_are_set_by_right, told_nodes_lead_to_objects, unreadable_bytes_do_not_show_in_answers,
+    users_need_no_groups, what_is_asked_may_be, what_is_due_is_kept_first,
     who_asks_counts_only_where_needed,
 };
 pub use mode::Mode;

@@ -9,7 +9,7 @@ use fuse_protocol::{Operation, Time};
 #[derive(Drop)]
 pub struct Asked {
     pub node: u64,
-    /// Who asks doesn't count: what a process of theirs would look up, the server's own does.
+    /// Who asks doesn't count: the server looks up what they would.
     pub needs_nobody: bool,
     /// None where not all groups of who asks are known.
     pub cred: Option<Cred>,
@@ -39,7 +39,7 @@ impl WhoCounts {
     }
 }
 
-/// Whether an operation is performed by a process of who asks, or may fail for its credential.
+/// Whether an operation is performed as who asks, or may fail for its credential.
 pub fn needs_caller(operation: &Operation<'_>) -> bool
     ensures { result ≡ needs_caller operation.now }
 {

@@ -59,6 +59,9 @@ impl RequestError {
     /// No such file or directory.
     pub const ENOENT: RequestError = RequestError::Refuses(Refusal::Failed(Errno::ENOENT));
 
+    /// The file would be too large.
+    pub const EFBIG: RequestError = RequestError::Refuses(Refusal::Failed(Errno::EFBIG));
+
     /// The device has failed.
     pub const EIO: RequestError = RequestError::Refuses(Refusal::Failed(Errno::EIO));
 

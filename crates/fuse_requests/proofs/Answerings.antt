@@ -1,18 +1,16 @@
 -- What was done for a request's plan is its answer.
 --     answers        the work of the plan was done
 --     told, told-answers, told-if        the work, once the time was told
---     refuses, is-silent        there is no work, or nothing to say
+--     refuses, is-silent        there is no work, or nothing is asked
 --     with-name, with-two        the work with names that are copies
 --     answering        by which it is found that what was done is the answer
---     begins-as        from a session that is the same
 use Rattle.std.specs.Prelude.{◌≡◌, ℕ, Bool, true, false, List, Result, Ok, Err}
 use Rattle.std.proofs.Common.{refl, sym, subst, ◌∙◌}
 use Rattle.fs_model.specs.declared.event.Event.{Event}
 use Rattle.fs_model.specs.declared.reply.Reply.{Reply}
-use Rattle.fuse_state.specs.Servers.{Server}
 use Rattle.fuse_plans.specs.declared.reply.ReplyBody.{ReplyBody}
 use Rattle.fuse_plans.specs.declared.reply.Response.{Response}
-use Rattle.fuse_plans.specs.declared.reply.Response.TheVariants.{Silence, Fails}
+use Rattle.fuse_plans.specs.declared.reply.Response.TheVariants.{Fails}
 use Rattle.fuse_sessions.specs.declared.session.Session.{Session}
 use Rattle.fuse_plans.specs.declared.request_error.RequestError.{RequestError}
 use Rattle.fuse_plans.specs.Plans.{Finish, CarriesOut, finishes}
@@ -20,7 +18,7 @@ use Rattle.fuse_protocol.specs.declared.reply.Time.{Time}
 use Rattle.fuse_plans.specs.FilePlans.{when}
 use Rattle.fuse_plans.specs.Times.{tell_time}
 use Rattle.fuse_plans.specs.Works.{Work, give, fail, ◌>>=◌, ◌>>◌}
-use Rattle.fuse_plans.specs.Serving.{Task, Replying, Silently, told_first, answered, response_of}
+use Rattle.fuse_plans.specs.Serving.{Task, Replying, told_first, answered, response_of}
 use Rattle.fuse_sessions.specs.Performing.{Did}
 use Rattle.fuse_requests.specs.Performing.{Answered}
 use Rattle.fuse_steps.proofs.Steps.{carries-followed_by}
@@ -70,15 +68,12 @@ module _ {M : Type 0} {Serves : M → Event → Reply → M → Type 0} where
   pub refuses : {plan : Task} {s : Session M} (e : RequestError) → plan ≡ Replying (fail e) → Answered Serves plan s s (Fails e)
   refuses {plan} {s} e is = same-plan is (did-answers {r = Err e} (has-failed e s))
 
-  -- the server keeps what it is to keep then, and nothing is asked
-  pub is-silent : {plan : Task} (f : Server → Server) {old new : Session M} → plan ≡ Silently f → new.machine ≡ old.machine
-      → new.server.server ≡ f old.server.server → Answered Serves plan old new Silence
-  is-silent {plan} f {old} {new} is same keeps =
-      same-plan is (record {
-        performs = subst (λ (m : M). CarriesOut Serves (answered true (Silently f) old.server.server) old.machine m (Silence, new.server.server)) (sym same)
-            (subst (λ (t : Server). CarriesOut Serves (answered true (Silently f) old.server.server) old.machine old.machine (Silence, t)) (sym keeps)
-            (finishes (Silence, f old.server.server) old.machine));
-      })
+  -- nothing is asked, and nothing changes
+  pub is-silent : {plan : Task} {s : Session M} {response : Response} → answered true plan s.server.server ≡ Finish (response, s.server.server)
+      → Answered Serves plan s s response
+  is-silent {plan} {s} {response} is = record {
+    performs = subst (λ p. CarriesOut Serves p s.machine s.machine (response, s.server.server)) (sym is) (finishes (response, s.server.server) s.machine);
+  }
 
   pub with-name : {X : Type 0} (f : List ℕ → Work X) {given copied : List ℕ} {old new : Session M} {r : Result X RequestError} → copied ≡ given
       → Did Serves (f copied) old new r → Did Serves (f given) old new r
@@ -91,12 +86,3 @@ module _ {M : Type 0} {Serves : M → Event → Reply → M → Type 0} where
       with-name (λ n. f given n) and (with-name (λ n. f n copied_second) is did)
 
   pub ruleset answering = (told-answers, answers, with-name, with-two)
-
-  -- what room there is doesn't count
-  pub begins-as : {plan : Task} (other old : Session M) {new : Session M} {response : Response}
-      → other.machine ≡ old.machine → other.server.server ≡ old.server.server → Answered Serves plan other new response
-      → CarriesOut Serves (answered true plan old.server.server) old.machine new.machine (response, new.server.server)
-  begins-as {plan} other old {new} {response} same is did =
-      subst (λ (m : M). CarriesOut Serves (answered true plan old.server.server) m new.machine (response, new.server.server)) same
-      (subst (λ (s : Server). CarriesOut Serves (answered true plan s) other.machine new.machine (response, new.server.server))
-      is did.performs)

@@ -1,2 +1,3 @@
 mod Answerings
+mod Chains
 mod Listings

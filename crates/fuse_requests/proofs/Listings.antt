@@ -1,12 +1,11 @@
 -- Names of a listing, which are looked up.
---     same-listing        the listing of what stayed open
 --     still-fits        a name whose record had room has it then too
 --     has-some, has-none, listing-kept        what was listed is kept
 --     then-listed, then-unlisted        names that are kept, or why there are none, by work that ends so
 --     length-told, records-more        how much longer it is with one record more, and which bytes it has
 --     next-named        the name at a place of a listing
 --     tells-next, tells-end        one name more is told, or there is none or no room for it
-use Rattle.std.specs.Prelude.{◌≡◌, ℕ, ◌+◌, ◌-◌, ◌<◌, ◌≤◌, nat_le, Bool, true, false, cond, List, [], ◌∷◌, ◌++◌, length, get_or, drop, slice_get, option_and_then, Option, None, Some, is_some, unwrap_or, IsSome, Result, Ok, Err, OnOk, IfErr, if◌then◌else◌}
+use Rattle.std.specs.Prelude.{◌≡◌, ℕ, ◌+◌, ◌-◌, ◌<◌, ◌≤◌, nat_le, Bool, true, false, cond, List, [], ◌∷◌, ◌++◌, length, get_or, drop, slice_get, Option, None, Some, is_some, unwrap_or, IsSome, Result, Ok, Err, OnOk, IfErr, if◌then◌else◌}
 use Rattle.std.specs.Ordering.{nat_cmp}
 use Rattle.std.proofs.Common.{⊎_elim, refl, sym, ap, subst, ◌∙◌, arith, append_assoc}
 use Rattle.std.proofs.Math.ListN.{drop_of_length-le}
@@ -38,20 +37,12 @@ use Rattle.fuse_requests.specs.Listings.{Listed}
 use Rattle.fuse_sessions.specs.Performing.{Did}
 use Rattle.fuse_sessions.proofs.Doings.{gives, same-work, then-ok}
 
--- where what is open stayed, and the listings of it
-pub same-listing : (s t : Server) (handle : ℕ) → t.directories ≡ s.directories → t.listings ≡ s.listings → listing_of t handle ≡ listing_of s handle
-same-listing s t handle directories listings =
-    ap (λ ls. listing_in ls (directory_of t handle)) listings ∙ ap (λ ds. listing_in s.listings (get nat_cmp ds handle)) directories
-
--- then the same name still has room
-pub still-fits : (s t : Server) (handle at held most : ℕ) (e : List ℕ × ℕ) {b : Bool} → Some e ≡ named_at t handle at
-    → t.directories ≡ s.directories → t.listings ≡ s.listings
+-- a name whose record had room has it after what left the server as it was
+pub still-fits : (s t : Server) (handle at held most : ℕ) (e : List ℕ × ℕ) {b : Bool} → Some e ≡ named_at t handle at → t ≡ s
     → ((x : List ℕ × ℕ) → named_at s handle at ≡ Some x → b ≡ nat_le (held + record_size (length x.0)) most) → b ≡ true
     → held + record_size (length e.0) ≤ most
-still-fits s t handle at held most e named directories listings fits is =
-    let same : named_at t handle at ≡ named_at s handle at =
-    ap (option_and_then (λ names. slice_get names at)) (same-listing s t handle directories listings) in
-    leb-true (held + record_size (length e.0)) most (sym (fits e (sym (named ∙ same))) ∙ is)
+still-fits s t handle at held most e named same fits is =
+    leb-true (held + record_size (length e.0)) most (sym (fits e (sym (named ∙ ap (λ (u : Server). named_at u handle at) same))) ∙ is)
 
 pub has-some : {X : Type 0} (o : Option X) → IsSome o → (x : X) × (o ≡ Some x)
 has-some None is = absurd (cc)

@@ -1,25 +1,28 @@
-//! Requests for directories. An open one holds no descriptor of the machine.
-ghost use Rattle.std.specs.Prelude.{◌≡◌, ◌+◌, ◌≤◌, [], vec_capacity, true, Err, IsSome, OnOk, IfErr};
-ghost use Rattle.fuse_plans.specs.Callers.{has_dentry};
-ghost use Rattle.fuse_plans.specs.DirectoryPlans.{open_directory, directory_flags, opened_directory_body, take_directory, list_all, list_now, list_kept, read_directory, close_directory};
+//! Requests for directories. An open one holds no handle of the machine.
+ghost use Rattle.std.specs.Prelude.{◌≡◌, ◌+◌, ◌≤◌, [], vec_capacity, Err, IsSome, OnOk, IfErr};
+ghost use Rattle.fuse_plans.specs.DirectoryPlans.{open_directory, directory_flags, opened_directory_body, take_directory, list_opened, list_all, list_now, list_kept, read_directory, close_directory};
+ghost use Rattle.fuse_plans.specs.Works.{of_result};
 ghost use Rattle.fuse_state.specs.Servers.{directory_of};
 ghost use Rattle.fuse_requests.specs.Listings.{Listed};
 ghost use Rattle.fuse_sessions.specs.Performing.{Did};
 
-use crate::attributes::access_if;
+use crate::attributes::on_once;
 use bitflags::Flags as _;
-use fs_model::{Call, Listing};
-use fuse_plans::{Asked, Replied, ReplyBody, RequestError, Tried};
+use fs_model::{Call, Listing, Reply};
+use fuse_plans::{Asked, OtherErrno, Replied, ReplyBody, RequestError, Tried};
 use fuse_protocol::{Extent, OpenedFlags};
-use fuse_sessions::{Session, has_dentry};
+use fuse_sessions::Session;
 use fuse_state::{Server, Settings};
+use fuse_steps::Machine;
+use fuse_steps::asker::{actor_in, who_asks};
+use fuse_steps::changes::or_removed;
 use fuse_steps::cursor::in_order;
 use fuse_steps::directory::list_and_close;
 use fuse_steps::flags::listing;
 use fuse_steps::listing::listing_bytes;
-use fuse_steps::replies::fd_of_reply;
-use fuse_steps::{Machine, OpenFile};
+use fuse_steps::seen::replied_opened;
 use posix_acl::Perms;
+use std::alloc::Global;
 
 // What the kernel may keep of a directory that is opened.
 fn directory_flags(settings: Settings) -> OpenedFlags
@@ -42,16 +45,15 @@ fn opened_body(server: &Server, handle: u64) -> ReplyBody
 
 /// Opens a directory, for reading by who asks; of one that was removed nothing is asked.
 pub(crate) fn open_directory<M: Machine>(session: &mut Session<M>, asked: Asked) -> Replied
-    requires room { 2 ≤ session.old.server.room }
+    requires room { 1 ≤ session.old.server.room }
     ensures { Did M.Serves (open_directory asked) session.old session.new result }
 {
-    let ino = session.directory_number(asked.node)?;
-    let Some(cred) = &asked.cred else {
-        return Err(RequestError::EACCES);
-    };
+    let ino = session.the_number(asked.node)?;
+    let cred = who_asks(asked.cred)?;
     let owner = cred.uid();
-    let has_name = has_dentry(&session.server, ino);
-    access_if(session, has_name, asked.cred, ino, Perms::from_digit(4))?;
+    let actor = actor_in(cred, ino);
+    let call = Call::Access(session.empty_path(), Perms::from_digit(4));
+    or_removed(on_once(session, &actor, call))?;
     take_directory(session, owner, asked.node)
 }
 
@@ -68,32 +70,38 @@ fn take_directory<M: Machine>(session: &mut Session<M>, owner: u32, node: u64) -
     Ok(opened_body(&session.server, handle))
 }
 
-// The names in a directory, as the server's own process sees them.
-fn list_all<M: Machine>(session: &mut Session<M>, ino: u32) -> Tried<Listing>
-    ensures did { Did M.Serves (list_all ino true) session.old session.new result }
+// The names in what was opened, and then it is closed; none where the directory was removed.
+fn list_opened<M: Machine>(session: &mut Session<M>, opened: Tried<Reply>) -> Tried<Listing>
+    ensures did { Did M.Serves (list_opened opened) session.old session.new result }
     ensures kept { session.new.server ≡ session.old.server }
 {
-    let pid = session.the_server_process()?;
-    let call = Call::Open(session.blank_path(), listing(), 0);
-    let opened = session.on_once(pid, ino, call)?;
-    let fd = fd_of_reply(&opened);
-    opened.discard();
-    let Some(fd) = fd else {
-        return Err(RequestError::EIO);
-    };
-    list_and_close(&mut session.machine, OpenFile { pid, fd })
+    match opened {
+        Ok(reply) => {
+            let (handle, _ino) = replied_opened(reply)?;
+            list_and_close(&mut session.machine, handle)
+        }
+        Err(error) => none_if_gone(session.alloc, error),
+    }
 }
 
 // A directory that was removed has no names.
-fn list_by_dentries<M: Machine>(session: &mut Session<M>, ino: u32) -> Tried<Listing>
-    ensures did { Did M.Serves (list_all ino (has_dentry session.old.server.server ino)) session.old session.new result }
+fn none_if_gone(alloc: Global, error: RequestError) -> Tried<Listing>
+    ensures { list_opened (Err error) ≡ of_result result }
+{
+    match error {
+        RequestError::Lacks(OtherErrno::ESTALE) => Ok(Listing::new(Vec::new(alloc))),
+        error => Err(error),
+    }
+}
+
+// The names in a directory, as the server sees them.
+fn list_all<M: Machine>(session: &mut Session<M>, ino: u32) -> Tried<Listing>
+    ensures did { Did M.Serves (list_all ino) session.old session.new result }
     ensures kept { session.new.server ≡ session.old.server }
 {
-    if has_dentry(&session.server, ino) {
-        list_all(session, ino)
-    } else {
-        Ok(Listing::new(Vec::new(session.alloc)))
-    }
+    let call = Call::Open(session.empty_path(), listing(), 0);
+    let opened = session.on_own(ino, call);
+    list_opened(session, opened)
 }
 
 /// The names of an open directory are those that it was listed with last, through whichever handle. At the beginning it is listed anew.
@@ -129,7 +137,7 @@ fn list_now<M: Machine>(session: &mut Session<M>, node: u64, handle: u64, opened
     if node != opened {
         return Err(RequestError::ESTALE);
     }
-    let names = list_by_dentries(session, ino)?;
+    let names = list_all(session, ino)?;
     session.server.set_listing(handle, in_order(names));
     Ok(())
 }

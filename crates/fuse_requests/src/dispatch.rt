@@ -5,17 +5,18 @@ ghost use Rattle.fuse_plans.specs.FilePlans.{write_file};
 ghost use Rattle.fuse_plans.specs.ListingPlans.{read_directory_plus};
 ghost use Rattle.fuse_requests.specs.Families.{family_of};
 ghost use Rattle.fuse_requests.specs.Performing.{Answered};
-ghost use Rattle.fuse_plans.specs.Plans.{CarriesOut};
+ghost use Rattle.fuse_plans.specs.Plans.{CarriesOut, Finish};
+ghost use Rattle.fuse_state.specs.Servers.{Server as ServerOf};
 ghost use Rattle.fuse_plans.specs.Serving.{Replying, answered, told_first, asked_for, response_of};
 ghost use Rattle.fuse_requests.specs.declared.family.Family.TheVariants as families;
 ghost use Rattle.fuse_plans.specs.declared.request.Asked.{Asked as AskedBy};
 
 use crate::attributes::{ask_access, get_attributes, read_link, set_attributes};
 use crate::beginning::begin;
-use crate::copies::{copy_for, own_cred, spare_acl, two_paths};
+use crate::copies::{spare_acl, two_paths};
 use crate::directories::{close_directory, open_directory, read_directory};
 use crate::family::{Family, family_of};
-use crate::files::{close_file, create_file, open_file, read_file, sync_file, write_file};
+use crate::files::{close_file, create_file, open_file, read_file, write_file};
 use crate::lookups::read_directory_plus;
 use crate::names::{add_link, make_directory, make_file, make_link, move_name, remove};
 use crate::whole::{count_space, end, sync_all};
@@ -29,7 +30,7 @@ use fuse_steps::Machine;
 use fuse_steps::acls::AclNames;
 use fuse_steps::flags::is_trunc;
 use fuse_steps::name_room::NameRoom;
-use fuse_steps::runs::{room_for_pieces, room_to_read};
+use fuse_steps::runs::room_for_pieces;
 use posix_acl::Acl;
 use std::alloc::AllocError;
 
@@ -69,7 +70,7 @@ fn perform_prepared<M: Machine>(
     value: &mut Option<Option<Acl>>,
     operation: &Operation<'_>,
 ) -> Result<Response, AllocError>
-    requires { 8 ≤ session.old.server.room }
+    requires { 5 ≤ session.old.server.room }
     ensures answered { IfOk result
         (Answered M.Serves (asked_for asked value.old (Some operation.now)) session.old session.new) }
     ensures stays { OnErr result (session.new ≡ session.old) }
@@ -82,30 +83,19 @@ fn perform_prepared<M: Machine>(
         Family::OnAcl => perform_on_acl(session, asked, value, operation),
         Family::ByHandle => perform_by_handle(session, &asked, operation),
         Family::OnWhole => perform_on_whole(session, operation),
-        Family::Silent => Ok(perform_silently(session, &asked, operation)),
+        Family::Silent => Ok(perform_silently(operation)),
     }
 }
 
 // Requests without a reply.
-fn perform_silently<M: Machine>(
-    session: &mut Session<M>,
-    asked: &Asked,
-    operation: &Operation<'_>,
-) -> Response
+fn perform_silently(operation: &Operation<'_>) -> Response
     requires { family_of operation.now ≡ families.Silent }
-    ensures { (value : Option (Option AccessList)) →
-        Answered M.Serves (asked_for asked.entry.now value (Some operation.now)) session.old session.new result }
+    ensures { (asked : AskedBy) (value : Option (Option AccessList)) (s : ServerOf)
+        → answered true (asked_for asked value (Some operation.now)) s ≡ Finish (result, s) }
 {
     match operation {
-        Operation::Forget(count) => {
-            session.server.forget(asked.node, *count);
-            Response::Silence
-        }
-        Operation::BatchForget(batch) => {
-            session.server.forget_all(batch);
-            Response::Silence
-        }
-        Operation::Interrupt => Response::Silence,
+        Operation::Forget(_) | Operation::Interrupt | Operation::BatchForget(_) =>
+            Response::Silence,
         _ => unreachable!(),
     }
 }
@@ -117,7 +107,7 @@ fn perform_making<M: Machine>(
     asked: Asked,
     operation: &Operation<'_>,
 ) -> Result<Response, AllocError>
-    requires room { 8 ≤ session.old.server.room }
+    requires room { 5 ≤ session.old.server.room }
     requires family { family_of operation.now ≡ families.Making }
     ensures answered { (value : Option (Option AccessList)) →
         IfOk result (Answered M.Serves (asked_for asked value (Some operation.now)) session.old session.new) }
@@ -163,7 +153,7 @@ fn perform_naming<M: Machine>(
     asked: Asked,
     operation: &Operation<'_>,
 ) -> Result<Response, AllocError>
-    requires room { 8 ≤ session.old.server.room }
+    requires room { 5 ≤ session.old.server.room }
     requires family { family_of operation.now ≡ families.Naming }
     ensures answered { (value : Option (Option AccessList)) →
         IfOk result (Answered M.Serves (asked_for asked value (Some operation.now)) session.old session.new) }
@@ -201,7 +191,7 @@ fn perform_removing<M: Machine>(
     asked: Asked,
     operation: &Operation<'_>,
 ) -> Result<Response, AllocError>
-    requires room { 8 ≤ session.old.server.room }
+    requires room { 5 ≤ session.old.server.room }
     requires family { family_of operation.now ≡ families.Removing }
     ensures answered { (value : Option (Option AccessList)) →
         IfOk result (Answered M.Serves (asked_for asked value (Some operation.now)) session.old session.new) }
@@ -229,7 +219,7 @@ fn perform_on_object<M: Machine>(
     asked: Asked,
     operation: &Operation<'_>,
 ) -> Result<Response, AllocError>
-    requires room { 8 ≤ session.old.server.room }
+    requires room { 5 ≤ session.old.server.room }
     requires family { family_of operation.now ≡ families.OnObject }
     ensures answered { (value : Option (Option AccessList)) →
         IfOk result (Answered M.Serves (asked_for asked value (Some operation.now)) session.old session.new) }
@@ -238,9 +228,8 @@ fn perform_on_object<M: Machine>(
     match operation {
         Operation::GetAttr => Ok(response_of(get_attributes(session, &asked))),
         Operation::SetAttr(changes) => {
-            let copy = copy_for(session.alloc, &asked)?;
             session.tell_time(asked.now);
-            Ok(response_of(set_attributes(session, &asked, copy, changes)))
+            Ok(response_of(set_attributes(session, asked, changes)))
         }
         Operation::ReadLink => Ok(response_of(read_link(session, &asked))),
         Operation::Open(flags) => {
@@ -261,7 +250,7 @@ fn perform_on_acl<M: Machine>(
     value: &mut Option<Option<Acl>>,
     operation: &Operation<'_>,
 ) -> Result<Response, AllocError>
-    requires room { 8 ≤ session.old.server.room }
+    requires room { 5 ≤ session.old.server.room }
     requires family { family_of operation.now ≡ families.OnAcl }
     ensures answered { IfOk result
         (Answered M.Serves (asked_for asked value.old (Some operation.now)) session.old session.new) }
@@ -299,8 +288,8 @@ fn perform_write<M: Machine>(
     offset: u64,
     bytes: &Piece<'_>,
 ) -> Result<Response, AllocError>
-    requires { 8 ≤ session.old.server.room }
-    ensures answered { let plan = Replying (write_file asked.entry.now handle offset bytes.now) in
+    requires { 5 ≤ session.old.server.room }
+    ensures answered { let plan = Replying (write_file asked.entry.now.now handle offset bytes.now) in
         IfOk result (Answered M.Serves (told_first true asked.entry.now.now plan) session.old session.new) }
     ensures stays { OnErr result (session.new ≡ session.old) }
 {
@@ -317,7 +306,7 @@ fn perform_listing<M: Machine>(
     asked: &Asked,
     extent: Extent,
 ) -> Result<Response, AllocError>
-    requires { 8 ≤ session.old.server.room }
+    requires { 5 ≤ session.old.server.room }
     ensures answered { let asked = asked.entry.now in IfOk result
         (Answered M.Serves (Replying (read_directory_plus asked.needs_nobody asked.node extent)) session.old session.new) }
     ensures stays { OnErr result (session.new ≡ session.old) }
@@ -326,7 +315,6 @@ fn perform_listing<M: Machine>(
     let count = size / LEAST_RECORD;
     let room = Vec::with_capacity(session.alloc, size as usize)?;
     let names = NameRoom::new(session.alloc, count as usize)?;
-    session.server.prepare_for(count)?;
     Ok(response_of(read_directory_plus(session, asked, extent, room, names)))
 }
 
@@ -337,24 +325,21 @@ fn perform_by_handle<M: Machine>(
     asked: &Asked,
     operation: &Operation<'_>,
 ) -> Result<Response, AllocError>
-    requires room { 8 ≤ session.old.server.room }
+    requires room { 5 ≤ session.old.server.room }
     requires family { family_of operation.now ≡ families.ByHandle }
     ensures answered { (value : Option (Option AccessList)) →
         IfOk result (Answered M.Serves (asked_for asked.entry.now value (Some operation.now)) session.old session.new) }
     ensures stays { OnErr result (session.new ≡ session.old) }
 {
     match operation {
-        Operation::Read(extent) => {
-            let room = room_to_read(session.alloc, extent.size as usize)?;
-            Ok(response_of(read_file(session, *extent, room)))
-        }
+        Operation::Read(extent) => { Ok(response_of(read_file(session, *extent))) }
         Operation::Write {
             handle,
             offset,
             bytes,
         } => perform_write(session, asked, *handle, *offset, bytes),
         Operation::Release(handle) => Ok(response_of(close_file(session, *handle))),
-        Operation::FSync(handle) => Ok(response_of(sync_file(session, *handle))),
+        Operation::FSync(_) => Ok(response_of(sync_all(session))),
         Operation::ReadDir(extent) => {
             let room = Vec::with_capacity(session.alloc, extent.size as usize)?;
             Ok(response_of(read_directory(session, asked.node, *extent, room)))
@@ -378,10 +363,7 @@ fn perform_on_whole<M: Machine>(
 {
     match operation {
         Operation::StatFs => Ok(response_of(count_space(session))),
-        Operation::Init(offer) => {
-            let own = own_cred(session.alloc)?;
-            Ok(response_of(begin(session, offer, &own)))
-        }
+        Operation::Init(offer) => { Ok(response_of(begin(session, offer))) }
         Operation::FSyncDir | Operation::SyncFs => Ok(response_of(sync_all(session))),
         Operation::Destroy => Ok(response_of(end(session))),
         Operation::Unknown => Ok(Response::Fails(RequestError::ENOSYS)),

@@ -1,7 +1,6 @@
 //! Requests of a kernel: the plan of each request of FUSE is performed on a [`Session`](fuse_sessions::Session).
 #![tactic(auto)]
 
-mod act;
 mod attributes;
 mod beginning;
 mod copies;

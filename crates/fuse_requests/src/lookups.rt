@@ -1,5 +1,5 @@
-//! READDIRPLUS: the names of an open directory, each looked up by the server's own process.
-ghost use Rattle.std.specs.Prelude.{◌≡◌, ℕ, List, ◌+◌, ◌-◌, ◌*◌, ◌/◌, ◌<◌, ◌≤◌, ◌^◌, length, vec_len, vec_capacity, Some, Ok, IsSome, IsNone, IfSome};
+//! READDIRPLUS: the names of an open directory, each looked up by the server.
+ghost use Rattle.std.specs.Prelude.{◌≡◌, ℕ, List, ◌+◌, ◌-◌, ◌*◌, ◌<◌, ◌≤◌, ◌^◌, length, vec_len, vec_capacity, Some, Ok, IsSome, IsNone, IfSome};
 ghost use Rattle.fuse_protocol.specs.Entries.{record_size};
 ghost use Rattle.fuse_state.specs.Servers.{listing_of, named_at};
 ghost use Rattle.fuse_plans.specs.ListingOrder.{behind, offset_behind};
@@ -21,38 +21,31 @@ use fuse_steps::listing::push_looked_up;
 use fuse_steps::name::plain_name;
 use fuse_steps::name_room::NameRoom;
 
-// What the server's own process finds under a name in a directory, where that stands.
+// What the server finds under a name in a directory.
 fn find_in_place<M: Machine>(
     session: &mut Session<M>,
     needs_nobody: bool,
     place: Tried<u32>,
     name: Path,
 ) -> Replied
-    requires { 2 ≤ session.old.server.room }
     ensures did { Did M.Serves (find_in_place needs_nobody place name) session.old session.new result }
-    ensures room { session.old.server.room ≤ session.new.server.room + 2 }
-    ensures directories { session.new.server.server.directories ≡ session.old.server.server.directories }
-    ensures listings { session.new.server.server.listings ≡ session.old.server.server.listings }
+    ensures kept { session.new.server ≡ session.old.server }
 {
     plain_name(&name)?;
     let dir_ino = place?;
-    let pid = session.the_server_process()?;
-    session.find_inside(needs_nobody, pid, dir_ino, name)
+    session.find_own(needs_nobody, dir_ino, name)
 }
 
-// What the server's own process finds under a name that was copied. One that is too long has no copy, and is EINVAL.
+// What the server finds under a name that was copied. One that is too long has no copy, and is EINVAL.
 fn find_copy<M: Machine>(
     session: &mut Session<M>,
     needs_nobody: bool,
     place: Tried<u32>,
     copy: Option<Path>,
 ) -> Replied
-    requires { 2 ≤ session.old.server.room }
     ensures did { (name : List ℕ) → IsCopy name copy →
         Did M.Serves (attempt (find_listed needs_nobody place name)) session.old session.new (Ok result) }
-    ensures room { session.old.server.room ≤ session.new.server.room + 2 }
-    ensures directories { session.new.server.server.directories ≡ session.old.server.server.directories }
-    ensures listings { session.new.server.server.listings ≡ session.old.server.server.listings }
+    ensures kept { session.new.server ≡ session.old.server }
 {
     match copy {
         Some(name) => find_in_place(session, needs_nobody, place, name),
@@ -72,7 +65,6 @@ fn tell_named<M: Machine>(
     bytes: &mut Vec<u8>,
 ) -> Option<Cursor>
     requires names { extent.size ≤ vec_len bytes.old + LEAST_RECORD * names.old + (LEAST_RECORD - 1) }
-    requires room { extent.size ≤ vec_len bytes.old + LEAST_RECORD * (session.old.server.room / 2) + (LEAST_RECORD - 1) }
     requires capacity { extent.size ≤ vec_capacity bytes.old }
     requires small { cursor.before ≤ 2 ^ 63 + cursor.at }
     ensures told { (e : List ℕ × ℕ) → named_at session.old.server.server extent.handle cursor.at ≡ Some e → IfSome result (λ next.
@@ -83,14 +75,12 @@ fn tell_named<M: Machine>(
     ensures crowded { (e : List ℕ × ℕ) → named_at session.old.server.server extent.handle cursor.at ≡ Some e → IsNone result →
         extent.size < length bytes.old.items + record_size (length e.0) }
     ensures same { IsNone result → session.new ≡ session.old }
-    ensures kept { IsNone result → bytes.new.items ≡ bytes.old.items }
+    ensures unwritten { IsNone result → bytes.new.items ≡ bytes.old.items }
     ensures longer { IsSome result → vec_len bytes.old + LEAST_RECORD ≤ vec_len bytes.new }
     ensures within { IsSome result → vec_len bytes.new ≤ extent.size }
     ensures capacity { extent.size ≤ vec_capacity bytes.new }
     ensures names { names.old ≤ names.new + 1 }
-    ensures room { session.old.server.room ≤ session.new.server.room + 2 }
-    ensures directories { session.new.server.server.directories ≡ session.old.server.server.directories }
-    ensures listings { session.new.server.server.listings ≡ session.old.server.server.listings }
+    ensures kept { session.new.server ≡ session.old.server }
 {
     let copy = copy_fitting(&session.server, extent, cursor.at, bytes.len(), names)?;
     let looked_up = find_copy(session, needs_nobody, place, copy);
@@ -112,7 +102,6 @@ fn look_up_names<M: Machine>(
     names: NameRoom,
 ) -> Bytes
     requires fits { HasListingRoom extent.size room.items (vec_capacity room) names }
-    requires room { 2 * names ≤ session.old.server.room }
     ensures { (listing : List (List ℕ × ℕ)) → listing_of session.old.server.server extent.handle ≡ Some listing →
         (found : List LookedUp) × (result ≡ records_bytes found)
         × Did M.Serves (look_up_names needs_nobody place (names_within extent.size (behind extent.offset listing))) session.old session.new (Ok found) }
@@ -143,11 +132,11 @@ pub(crate) fn read_directory_plus<M: Machine>(
     names: NameRoom,
 ) -> Replied
     requires fits { HasListingRoom (bounded extent).size room.items (vec_capacity room) names }
-    requires room { 2 * names + 1 ≤ session.old.server.room }
+    requires room { 1 ≤ session.old.server.room }
     ensures { let asked = asked.entry.now in
         Did M.Serves (read_directory_plus asked.needs_nobody asked.node extent) session.old session.new result }
 {
-    let place = session.standing_directory(asked.node);
+    let place = session.the_number(asked.node);
     list_kept(session, asked.node, extent)?;
     let told = bounded(extent);
     let bytes = look_up_names(session, asked.needs_nobody, place, told, room, names);

@@ -1,50 +1,19 @@
 //! Requests for the two ACLs of acl(5), which are attributes to the kernel.
-ghost use Rattle.std.specs.Prelude.{◌≡◌, ◌≤◌, not, ◌&&◌};
+ghost use Rattle.std.specs.Prelude.{◌≡◌, ◌≤◌, ℕ, Err};
 ghost use Rattle.posix_acl.specs.AccessList.{minimal};
-ghost use Rattle.fuse_plans.specs.Masks.{acl_of};
-ghost use Rattle.fuse_plans.specs.AclPlans.{attribute_names, list_xattrs, has_acls, an_object, tell_acl, get_xattr, is_of_default, acl_set, set_by, set_acl, set_xattr, remove_xattr};
-ghost use Rattle.fuse_plans.specs.Callers.{is_known_directory};
+ghost use Rattle.fuse_plans.specs.AclPlans.{attribute_names, names_if, list_xattrs, tell_acl, get_xattr, acl_set, set_acl, set_xattr, remove_xattr};
+ghost use Rattle.fuse_plans.specs.Works.{of_result};
 ghost use Rattle.fuse_sessions.specs.Performing.{Did};
 
-use crate::act::Act;
-use crate::attributes::is_known_link;
-use fs_model::{AclType, Bytes, Call, FileType};
-use fuse_plans::{Asked, Replied, ReplyBody, RequestError, Tried};
-use fuse_sessions::{Session, has_dentry, is_known_directory};
-use fuse_state::Server;
+use crate::attributes::on_once;
+use fs_model::{AclType, Bytes, Call};
+use fuse_plans::{Asked, OtherErrno, Replied, ReplyBody, RequestError, Tried};
+use fuse_sessions::Session;
 use fuse_steps::Machine;
 use fuse_steps::acls::{AclNames, acl_size, is_plain, sized, the_acl};
-use fuse_steps::name::only_if;
+use fuse_steps::asker::{actor_in, who_asks};
+use fuse_steps::changes::or_not_for_files;
 use posix_acl::Acl;
-
-// Whether an object is no link, and has a name.
-fn has_acls(server: &Server, ino: u32) -> bool
-    ensures { result ≡ has_acls server.now.server ino }
-{
-    !is_known_link(server.kind_of(ino)) && has_dentry(server, ino)
-}
-
-// Whether a default ACL is to be set on what is no directory.
-fn is_misplaced(which: AclType, kind: Option<FileType>) -> bool
-    ensures { result ≡ (is_of_default which && not (is_known_directory kind)) }
-{
-    match which {
-        AclType::Access => false,
-        AclType::Default => !is_known_directory(kind),
-    }
-}
-
-// An object that may have ACLs.
-fn an_object<M: Machine>(session: &Session<M>, asked: &Asked) -> Tried<u32>
-    ensures { Did M.Serves (an_object asked.entry.now) session.now session.now result }
-{
-    let ino = session.the_number(asked.node)?;
-    only_if(
-        has_acls(&session.server, ino),
-        ino,
-        RequestError::EOPNOTSUPP,
-    )
-}
 
 /// An ACL, or how many bytes it has.
 pub(crate) fn get_xattr<M: Machine>(
@@ -56,7 +25,7 @@ pub(crate) fn get_xattr<M: Machine>(
     ensures { Did M.Serves (get_xattr asked.entry.now name.now size) session.old session.new result }
 {
     let which = the_acl(name)?;
-    let ino = an_object(session, asked)?;
+    let ino = session.the_number(asked.node)?;
     tell_acl(session, ino, which, size)
 }
 
@@ -73,23 +42,26 @@ fn tell_acl<M: Machine>(session: &mut Session<M>, ino: u32, which: AclType, size
 }
 
 // The names of an object's ACLs.
-fn attribute_names<M: Machine>(
-    session: &mut Session<M>,
-    ino: u32,
-    has: bool,
-    names: AclNames,
-) -> Tried<Bytes>
-    ensures did { Did M.Serves (attribute_names ino has) session.old session.new result }
-    ensures kept { session.new.server ≡ session.old.server }
+fn attribute_names<M: Machine>(session: &mut Session<M>, ino: u32, names: AclNames) -> Tried<Bytes>
+    ensures { Did M.Serves (attribute_names ino) session.old session.new result }
 {
-    if !has {
-        let none = names.told(false, false);
-        return Ok(none);
+    match session.acl_of(ino, AclType::Access) {
+        Ok(access) => {
+            let default = session.acl_of(ino, AclType::Default)?;
+            Ok(names.told(access.is_some(), default.is_some()))
+        }
+        Err(error) => no_names_of_link(names, error),
     }
-    let access = session.acl_of(ino, AclType::Access)?;
-    let default = session.acl_of(ino, AclType::Default)?;
-    let told = names.told(access.is_some(), default.is_some());
-    Ok(told)
+}
+
+// A link has no ACLs.
+fn no_names_of_link(names: AclNames, error: RequestError) -> Tried<Bytes>
+    ensures { (ino : ℕ) → names_if ino (Err error) ≡ of_result result }
+{
+    match error {
+        RequestError::Lacks(OtherErrno::EOPNOTSUPP) => Ok(names.told(false, false)),
+        error => Err(error),
+    }
 }
 
 /// The names of the ACLs that an object has, or how many bytes they have.
@@ -102,8 +74,7 @@ pub(crate) fn list_xattrs<M: Machine>(
     ensures { Did M.Serves (list_xattrs asked.entry.now size) session.old session.new result }
 {
     let ino = session.the_number(asked.node)?;
-    let has = has_acls(&session.server, ino);
-    let names = attribute_names(session, ino, has, names)?;
+    let names = attribute_names(session, ino, names)?;
     let count = names.bytes().len();
     sized(size, count, ReplyBody::Bytes(names))
 }
@@ -137,29 +108,17 @@ fn acl_set<M: Machine>(session: &mut Session<M>, ino: u32, new_acl: NewAcl) -> T
 /// Sets an ACL, or removes it.
 fn set_acl<M: Machine>(session: &mut Session<M>, asked: Asked, new_acl: NewAcl) -> Replied
     requires spare { new_acl.spare ≡ minimal 0 }
-    requires room { 2 ≤ session.old.server.room }
+    requires room { 1 ≤ session.old.server.room }
     ensures { Did M.Serves (set_acl asked new_acl.which new_acl.wanted) session.old session.new result }
 {
-    let ino = an_object(session, &asked)?;
-    if is_misplaced(new_acl.which, session.server.kind_of(ino)) {
-        return Err(RequestError::EACCES);
-    }
-    let pid = session.caller(asked.cred)?;
-    let now = asked.now;
-    set_by(session, Act { now, pid, ino }, new_acl)
-}
-
-// A process sets it.
-fn set_by<M: Machine>(session: &mut Session<M>, act: Act, new_acl: NewAcl) -> Replied
-    requires spare { new_acl.spare ≡ minimal 0 }
-    requires room { 1 ≤ session.old.server.room }
-    ensures { Did M.Serves (set_by act.now act.pid act.ino new_acl.which new_acl.wanted) session.old session.new result }
-{
+    let ino = session.the_number(asked.node)?;
+    let cred = who_asks(asked.cred)?;
     let which = new_acl.which;
-    let acl = acl_set(session, act.ino, new_acl)?;
-    let call = Call::SetAcl(session.blank_path(), which, acl);
-    session.on_once(act.pid, act.ino, call)?.discard();
-    session.server.change(act.now, act.ino);
+    let acl = acl_set(session, ino, new_acl)?;
+    let actor = actor_in(cred, ino);
+    let call = Call::SetAcl(session.empty_path(), which, acl);
+    or_not_for_files(on_once(session, &actor, call))?;
+    session.server.change(asked.now, ino);
     Ok(ReplyBody::Nothing)
 }
 
@@ -172,7 +131,7 @@ pub(crate) fn set_xattr<M: Machine>(
     spare: Acl,
 ) -> Replied
     requires spare { spare ≡ minimal 0 }
-    requires room { 2 ≤ session.old.server.room }
+    requires room { 1 ≤ session.old.server.room }
     ensures { Did M.Serves (set_xattr asked name.now value) session.old session.new result }
 {
     let which = the_acl(name)?;
@@ -195,7 +154,7 @@ pub(crate) fn remove_xattr<M: Machine>(
     spare: Acl,
 ) -> Replied
     requires spare { spare ≡ minimal 0 }
-    requires room { 2 ≤ session.old.server.room }
+    requires room { 1 ≤ session.old.server.room }
     ensures { Did M.Serves (remove_xattr asked name.now) session.old session.new result }
 {
     let which = the_acl(name)?;

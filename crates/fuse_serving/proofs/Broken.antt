@@ -1,5 +1,5 @@
 -- A round that breaks off, from its read on, and the requests until there.
-use Rattle.std.proofs.Common.{◌≡◌, ℕ, Bool, true, false, List, [], ◌∷◌, ◌++◌, map, Option, Result, Ok, Err, IsErr, IsErrAnd, IfErr, sym, subst}
+use Rattle.std.proofs.Common.{◌≡◌, ℕ, true, false, List, [], ◌∷◌, ◌++◌, map, Option, Result, Ok, Err, IsErr, IsErrAnd, IfErr, sym, subst}
 use Rattle.posix_acl.specs.AccessList.{AccessList}
 use Rattle.fs_model.specs.declared.event.Event.{Event}
 use Rattle.fs_model.specs.declared.reply.Reply.{Reply}
@@ -17,7 +17,7 @@ use Rattle.fuse_plans.specs.Plans.{finishes}
 use Rattle.fuse_plans.specs.Protocol.{HasValue, Hears, says, says_badly, no_more, one_more, request_from, malformed}
 use Rattle.fuse_plans.specs.Requests.{Outside}
 use Rattle.fuse_plans.specs.RequestErrors.{failed}
-use Rattle.fuse_plans.specs.Works.{fail}
+use Rattle.fuse_plans.specs.Works.{give, fail}
 use Rattle.fuse_serving.specs.declared.fault.ServeFault.{ServeFault}
 use Rattle.fuse_serving.specs.Exchanges.{Exchange, Reads, Passes, passes_none, passes_more}
 use Rattle.fuse_serving.specs.Rounds.{Round, Parties, IsAnsweredSo, Rounds, no_round, one_round, IsDecided, ArePerformed, Breaks, IsOfRead, IsOfClock, IsOfReply, no_request, no_time, no_reply, heard_in, learns}
@@ -95,7 +95,7 @@ module _ {M K : Type 0} (Serves : M → Event → Reply → M → Type 0) (Does 
   unanswered round fault old new reached is hears performs passes = record {
     untold = round ∷ [];
     is_break = λ k does. no_reply round reached is (passes_more (Reads round.bytes) (learns round.who (request_of round.bytes) round.outside) k old.kernel reached does passes);
-    found = (performs.mid, performs.finds);
+    found = (performs.kept, performs.mid, performs.found);
     performed = one_performed round old new hears performs;
   }
 
@@ -111,9 +111,9 @@ module _ {M K : Type 0} (Serves : M → Event → Reply → M → Type 0) (Does 
 
   pub unanswered_badly : (bytes : List ℕ) (unique : ℕ) (fault : ServeFault) (m : M) (s : Server) (before after : K)
       → request_of bytes ≡ Err (Malformed unique) → IsOfReply fault → ReadBreaks Serves Does bytes fault (at m s before) (at m s after)
-  unfolding fail
+  unfolding give fail
   unanswered_badly bytes unique fault m s before after spoke is =
       unanswered (record { bytes = bytes; outside = any_outside; request = malformed any_outside unique; who = Nobody; response = Fails (failed EINVAL); taken = false })
       fault (at m s before) (at m s after) before is (says_badly unique spoke)
-      (record { mid = m; finds = finishes Nobody m; of_user = tt; answers = finishes (Fails (failed EINVAL), s) m })
+      (record { kept = s; mid = m; found = record { mid = m; keeps = finishes (Ok tt, s) m; finds = finishes Nobody m }; of_user = tt; answers = finishes (Fails (failed EINVAL), s) m })
       (subst (λ (r : Result WireRequest RequestFault). Passes Does before (learns Nobody r any_outside) before) (sym spoke) (passes_none before))

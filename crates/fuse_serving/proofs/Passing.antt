@@ -1,5 +1,5 @@
 -- What passes, one after another.
-use Rattle.std.proofs.Common.{◌≡◌, ◌≢◌, ℕ, ◌==◌, Bool, true, false, List, [], ◌∷◌, ◌++◌, Option, Some, refl, sym, subst, if◌then◌else◌, bit_and}
+use Rattle.std.proofs.Common.{◌≡◌, ℕ, ◌==◌, Bool, true, false, List, [], ◌∷◌, ◌++◌, Option, Some, refl, sym, subst, if◌then◌else◌, bit_and}
 use Rattle.fs_cred.specs.declared.caps.Caps.{Caps}
 use Rattle.fs_cred.specs.Capabilities.{no_caps, all_caps}
 use Rattle.fuse_protocol.specs.declared.request.Request.{Request as WireRequest}

@@ -15,7 +15,7 @@ use Rattle.fuse_plans.specs.Plans.{finishes}
 use Rattle.fuse_plans.specs.Protocol.{Hears, says, says_badly, request_from, malformed}
 use Rattle.fuse_plans.specs.Requests.{Outside}
 use Rattle.fuse_plans.specs.RequestErrors.{failed}
-use Rattle.fuse_plans.specs.Works.{fail}
+use Rattle.fuse_plans.specs.Works.{give, fail}
 use Rattle.fuse_serving.specs.Exchanges.{Exchange, Reads, Passes, passes_more}
 use Rattle.fuse_serving.specs.Rounds.{Parties, learns, tells, later_exchanges, not_whole}
 use Rattle.fuse_serving.specs.Pieces.{SpokenServed, ReadServed, ReadComesTo, ComesTo}
@@ -59,11 +59,11 @@ module _ {M K : Type 0} (Serves : M → Event → Reply → M → Type 0) (Does 
 
   pub read_badly : (bytes : List ℕ) (unique : ℕ) (m : M) (s : Server) (k after : K) (taken : Bool) → request_of bytes ≡ Err (Malformed unique)
       → Passes Does k (tells unique (Fails (failed EINVAL)) taken) after → ReadServed Serves Does bytes (at m s k) (at m s after)
-  unfolding fail
+  unfolding give fail
   read_badly bytes unique m s k after taken is told = record {
     round = record { bytes = bytes; outside = any_outside; request = malformed any_outside unique; who = Nobody; response = Fails (failed EINVAL); taken = taken };
     is_read = refl;
     hears = says_badly unique is;
     passes = subst (λ (r : Result WireRequest RequestFault). Passes Does k (learns Nobody r any_outside ++ tells unique (Fails (failed EINVAL)) taken) after) (sym is) told;
-    performs = record { mid = m; finds = finishes Nobody m; of_user = tt; answers = finishes (Fails (failed EINVAL), s) m };
+    performs = record { kept = s; mid = m; found = record { mid = m; keeps = finishes (Ok tt, s) m; finds = finishes Nobody m }; of_user = tt; answers = finishes (Fails (failed EINVAL), s) m };
   }

@@ -14,7 +14,7 @@ use Rattle.fuse_plans.specs.declared.reply.Response.TheVariants.{Silence, Says, 
 use Rattle.fuse_plans.specs.Requests.{Outside, Request}
 use Rattle.fuse_plans.specs.Protocol.{no_more, one_more, response_bytes}
 use Rattle.fuse_serving.specs.declared.caller.Caller.{Caller}
-use Rattle.fuse_serving.specs.Exchanges.{Exchange, Learns, SeesTime, Passes, passes_none}
+use Rattle.fuse_serving.specs.Exchanges.{Exchange, SeesTime, Passes, passes_none}
 use Rattle.fuse_plans.specs.declared.request.WhoCounts.{WhoCounts}
 use Rattle.fuse_plans.specs.declared.request.WhoCounts.TheVariants.{Nobody, User, Process}
 use Rattle.fuse_serving.specs.Rounds.{asks_for, Round, Parties, IsRound, Rounds, no_round, one_round, AreServed, caller_in, learns, tells, exchanges, heard_in, taken_bytes, bytes_sent}

@@ -1,6 +1,7 @@
 -- Requests that are served, one after another.
 --     Round        a request with its answer
---     IsAnsweredSo        its plan is performed, in two parts
+--     IsFoundSo        what is due is done, and who counts is found
+--     IsAnsweredSo        its plan is performed: these two parts, and the answer
 --     IsRound        how one is served
 --     Rounds        several
 --     IsEnd        why no more are
@@ -24,9 +25,9 @@ use Rattle.fuse_plans.specs.Plans.{CarriesOut}
 use Rattle.fuse_plans.specs.Requests.{Outside, Request}
 use Rattle.fuse_plans.specs.Protocol.{Hears, HearsAll, response_bytes}
 use Rattle.fuse_plans.specs.declared.request.WhoCounts.{WhoCounts}
-use Rattle.fuse_plans.specs.declared.request.WhoCounts.TheVariants.{Nobody, User, Process}
+use Rattle.fuse_plans.specs.declared.request.WhoCounts.TheVariants.{User, Process}
 use Rattle.fuse_plans.specs.Nobody.{who_counts_in, is_nobody}
-use Rattle.fuse_plans.specs.Serving.{answered_as, requests_plan}
+use Rattle.fuse_plans.specs.Serving.{answered_as, keep_due_in, requests_plan}
 use Rattle.fuse_serving.specs.declared.caller.Caller.{Caller}
 use Rattle.fuse_serving.specs.declared.fault.ServeFault.{ServeFault}
 use Rattle.fuse_serving.specs.declared.fault.ServeFault.TheVariants as faults
@@ -91,13 +92,21 @@ IsOfUser User (Some cred) = (cred.groups ≡ []) × (cred.caps ≡ no_caps)
 IsOfUser User None = ⊥
 IsOfUser _ cred = Unit {0}
 
--- First it is found who counts, which changes nothing that the server keeps; and then the request is answered.
+-- First all is made to last, where that is due; and then it is found who counts, which changes nothing that the server keeps.
+pub record IsFoundSo {M : Type 0} (Serves : M → Event → Reply → M → Type 0) (request : Request) (who : WhoCounts) (before kept : Server)
+    (old new : M) : Type 0 where
+  pub mid : M
+  pub keeps : CarriesOut Serves (keep_due_in request.operation request.now before) old mid (Ok tt, kept)
+  pub finds : CarriesOut Serves (who_counts_in request.node request.uid request.operation kept) mid new who
+
+-- And then the request is answered.
 pub record IsAnsweredSo {M : Type 0} (Serves : M → Event → Reply → M → Type 0) (request : Request) (who : WhoCounts) (response : Response)
     (before after : Server) (old new : M) : Type 0 where
+  pub kept : Server
   pub mid : M
-  pub finds : CarriesOut Serves (who_counts_in request.node request.uid request.operation before) old mid who
+  pub found : IsFoundSo Serves request who before kept old mid
   pub of_user : IsOfUser who request.cred
-  pub answers : CarriesOut Serves (answered_as (is_nobody who) request before) mid new (response, after)
+  pub answers : CarriesOut Serves (answered_as (is_nobody who) request kept) mid new (response, after)
 
 -- The request is read, its plan is performed, and the answer is told.
 pub record IsRound {M K : Type 0} (Serves : M → Event → Reply → M → Type 0) (Does : K → Exchange → K → Type 0)
@@ -192,11 +201,11 @@ pub record ArePerformed {M K : Type 0} (Serves : M → Event → Reply → M →
   pub hears : HearsAll (map heard_in rounds) (map (λ r. r.request) rounds)
   pub performs : CarriesOut Serves (requests_plan (map (λ r. r.request) rounds) old.server) old.machine new.machine (map (λ r. r.response) rounds, new.server)
 
--- of the first of these it was found who counts
+-- for the first of these what is due was done, and it was found who counts
 abbrev pub IsDecided : {M K : Type 0} → (M → Event → Reply → M → Type 0) → Parties M K → List Round → Type 0
 IsDecided Serves old [] = Unit {0}
 IsDecided {M} Serves old (round ∷ rounds) =
-    (mid : M) × CarriesOut Serves (who_counts_in round.request.node round.request.uid round.request.operation old.server) old.machine mid round.who
+    (kept : Server) × (mid : M) × IsFoundSo Serves round.request round.who old.server kept old.machine mid
 
 -- No more is asked than the plan of the request that is untold, if one is.
 pub record Breaks {M K : Type 0} (Serves : M → Event → Reply → M → Type 0) (Does : K → Exchange → K → Type 0) (fault : ServeFault)

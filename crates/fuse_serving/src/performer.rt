@@ -1,11 +1,11 @@
 //! What performs the plans of requests.
-ghost use Rattle.std.specs.Prelude.{◌≡◌, true, Some, IfOk, OnErr};
+ghost use Rattle.std.specs.Prelude.{◌≡◌, true, Some, Ok, IfOk, OnErr};
 ghost use Rattle.fuse_plans.specs.Nobody.{who_counts};
 ghost use Rattle.fuse_plans.specs.Plans.{CarriesOut};
-ghost use Rattle.fuse_plans.specs.Serving.{answered, asked_for};
+ghost use Rattle.fuse_plans.specs.Serving.{answered, asked_for, keep_due};
 
 use fuse_plans::{Asked, Response, WhoCounts};
-use fuse_protocol::Operation;
+use fuse_protocol::{Operation, Time};
 use posix_acl::Acl;
 use std::alloc::AllocError;
 
@@ -30,6 +30,11 @@ pub trait Performer {
     /// Whether it was told to end.
     fn is_ended(&self) -> bool
         ensures { result ≡ (server self.now).ended };
+
+    /// Makes all last that was done, where that is due at this time.
+    fn keep_due(&mut self, now: Time)
+        ensures { CarriesOut Serves (keep_due now (server self.old))
+            (machine self.old) (machine self.new) (Ok tt, server self.new) };
 
     /// Who counts where this user asks for an operation of this node. Nothing changes of what is kept.
     fn who_counts(&mut self, node: u64, uid: u32, operation: &Operation<'_>) -> WhoCounts

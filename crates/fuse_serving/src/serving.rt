@@ -66,6 +66,7 @@ fn serve_spoken<P: Performer, K: Kernel, W: Witness>(
         Ok(now) => now,
         Err(fault) => return Err(ServeFault::Clock(fault)),
     };
+    performer.keep_due(now);
     let who = performer.who_counts(spoken.node, spoken.uid, &spoken.operation);
     let caller = learn(alloc, kernel, spoken, who);
     let response = answer(

@@ -2,7 +2,7 @@
 
 use crate::performer::Performer;
 use fuse_plans::{Asked, Response, WhoCounts};
-use fuse_protocol::Operation;
+use fuse_protocol::{Operation, Time};
 use fuse_requests::perform;
 use fuse_sessions::Session;
 use fuse_steps::Machine;
@@ -20,6 +20,10 @@ impl<M: Machine> Performer for Session<M> {
 
     fn is_ended(&self) -> bool {
         self.is_ended()
+    }
+
+    fn keep_due(&mut self, now: Time) {
+        self.keep_due(now);
     }
 
     fn who_counts(&mut self, node: u64, uid: u32, operation: &Operation<'_>) -> WhoCounts {

@@ -126,6 +126,10 @@ module _ {M : Type 0} {Serves : M → Event → Reply → M → Type 0} where
   unfolding fail
   has-failed e s = record { performs = finishes (Err e, s.server.server) s.machine }
 
+  -- a value that must be there, as the last step
+  pub needed-last : {X : Type 0} (e : RequestError) (o : Option X) {s : Session M} {r : Result X RequestError} → r ≡ ok_or o e → Did Serves (needed e o) s s r
+  needed-last e o is = of-result (needed-is e o ∙ ap of_result (sym is))
+
   -- what is read of what is kept
   pub reads : {X Y : Type 0} (h : Server → X) (f : X → Work Y) {old new : Session M} {x : X} {r : Result Y RequestError}
       → x ≡ h old.server.server → Did Serves (f x) old new r → Did Serves (kept h >>= f) old new r

@@ -1,8 +1,9 @@
--- Whether the kernel has judged, once it was found what a directory's list is; and who counts, once it was found who owns what is read.
-use Rattle.std.specs.Prelude.{◌≡◌, ℕ, Bool, true, false, not, Result}
+-- Whether the kernel has judged, once it was found what a directory's list is; and who counts, once it was found whether the user is granted what is asked.
+use Rattle.std.specs.Prelude.{◌≡◌, ℕ, Bool, true, false, not, Option, None, Some, Result}
 use Rattle.std.proofs.Common.{refl, sym, subst}
 use Rattle.fs_model.specs.declared.event.Event.{Event}
 use Rattle.fs_model.specs.declared.reply.Reply.{Reply}
+use Rattle.posix_acl.specs.declared.entry.Perms.{Perms}
 use Rattle.fuse_sessions.specs.declared.session.Session.{Session}
 use Rattle.fuse_plans.specs.declared.request_error.RequestError.{RequestError}
 use Rattle.fuse_plans.specs.Plans.{Finish, CarriesOut, finishes}
@@ -11,7 +12,7 @@ use Rattle.fuse_protocol.specs.declared.operation.Operation.{Operation}
 use Rattle.fuse_state.specs.Servers.{Server}
 use Rattle.fuse_plans.specs.declared.request.WhoCounts.{WhoCounts}
 use Rattle.fuse_plans.specs.declared.request.WhoCounts.TheVariants.{Nobody, Process}
-use Rattle.fuse_plans.specs.Nobody.{needs_nobody, unless_masked, is_judged, asks_reading, is_owner, or_process, or_user, who_counts}
+use Rattle.fuse_plans.specs.Nobody.{needs_nobody, unless_masked, is_judged, asks_alone, is_granted, or_process, or_user, who_counts}
 use Rattle.fuse_sessions.specs.Performing.{Did}
 use Rattle.fuse_steps.proofs.Steps.{carries-followed_by}
 
@@ -43,27 +44,27 @@ module _ {M : Type 0} {Serves : M → Event → Reply → M → Type 0} where
   pub counts-nobody : (node uid : ℕ) (operation : Operation) (s : Server) {old new : M} {b : Bool} → b ≡ true
       → CarriesOut Serves (needs_nobody node operation s) old new b → CarriesOut Serves (who_counts node uid operation s) old new Nobody
   counts-nobody node uid operation s {old} {new} {b} is found =
-      carries-followed_by (needs_nobody node operation s) (λ nobody. or_user nobody (asks_reading operation) node uid s) old new new true Nobody
+      carries-followed_by (needs_nobody node operation s) (λ nobody. or_user nobody (asks_alone operation) node uid s) old new new true Nobody
       (subst (λ (c : Bool). CarriesOut Serves (needs_nobody node operation s) old new c) is found) (finishes Nobody new)
 
-  pub counts-process : (node uid : ℕ) (operation : Operation) (s : Server) {old new : M} {b : Bool} → b ≡ false → asks_reading operation ≡ false
+  pub counts-process : (node uid : ℕ) (operation : Operation) (s : Server) {old new : M} {b : Bool} → b ≡ false → asks_alone operation ≡ None
       → CarriesOut Serves (needs_nobody node operation s) old new b → CarriesOut Serves (who_counts node uid operation s) old new Process
   counts-process node uid operation s {old} {new} {b} is other found =
-      carries-followed_by (needs_nobody node operation s) (λ nobody. or_user nobody (asks_reading operation) node uid s) old new new false Process
+      carries-followed_by (needs_nobody node operation s) (λ nobody. or_user nobody (asks_alone operation) node uid s) old new new false Process
       (subst (λ (c : Bool). CarriesOut Serves (needs_nobody node operation s) old new c) is found)
-      (subst (λ (c : Bool). CarriesOut Serves (or_user false c node uid s) new new Process) (sym other) (finishes Process new))
+      (subst (λ (c : Option Perms). CarriesOut Serves (or_user false c node uid s) new new Process) (sym other) (finishes Process new))
 
-  pub counts-owner : (node uid : ℕ) (operation : Operation) {old mid new : Session M} {b : Bool} {r : Result Bool RequestError} {who : WhoCounts} → b ≡ false
-      → mid.server ≡ old.server → asks_reading operation ≡ true
-      → CarriesOut Serves (needs_nobody node operation old.server.server) old.machine mid.machine b → Did Serves (is_owner node uid) mid new r → or_process r ≡ who
+  pub counts-user : (node uid : ℕ) (operation : Operation) (want : Perms) (old : Session M) {mid new : Session M} {b : Bool} {r : Result Bool RequestError} {who : WhoCounts} → b ≡ false
+      → mid.server ≡ old.server → asks_alone operation ≡ Some want
+      → CarriesOut Serves (needs_nobody node operation old.server.server) old.machine mid.machine b → Did Serves (is_granted node uid want) mid new r → or_process r ≡ who
       → CarriesOut Serves (who_counts node uid operation old.server.server) old.machine new.machine who
-  counts-owner node uid operation {old} {mid} {new} {b} {r} {who} is same reads found did says =
+  counts-user node uid operation want old {mid} {new} {b} {r} {who} is same reads found did says =
       let s = old.server.server in
-      let owner : CarriesOut Serves (is_owner node uid s) mid.machine new.machine (r, new.server.server) =
-      subst (λ k. CarriesOut Serves (is_owner node uid k.server) mid.machine new.machine (r, new.server.server)) same did.performs in
+      let granted : CarriesOut Serves (is_granted node uid want s) mid.machine new.machine (r, new.server.server) =
+      subst (λ k. CarriesOut Serves (is_granted node uid want k.server) mid.machine new.machine (r, new.server.server)) same did.performs in
       subst (λ w. CarriesOut Serves (who_counts node uid operation s) old.machine new.machine w) says
-      (carries-followed_by (needs_nobody node operation s) (λ nobody. or_user nobody (asks_reading operation) node uid s) old.machine mid.machine new.machine false (or_process r)
+      (carries-followed_by (needs_nobody node operation s) (λ nobody. or_user nobody (asks_alone operation) node uid s) old.machine mid.machine new.machine false (or_process r)
       (subst (λ (c : Bool). CarriesOut Serves (needs_nobody node operation s) old.machine mid.machine c) is found)
-      (subst (λ (c : Bool). CarriesOut Serves (or_user false c node uid s) mid.machine new.machine (or_process r)) (sym reads)
-      (carries-followed_by (is_owner node uid s) (λ q. Finish (or_process q.0)) mid.machine new.machine new.machine (r, new.server.server) (or_process r)
-      owner (finishes (or_process r) new.machine))))
+      (subst (λ (c : Option Perms). CarriesOut Serves (or_user false c node uid s) mid.machine new.machine (or_process r)) (sym reads)
+      (carries-followed_by (is_granted node uid want s) (λ q. Finish (or_process q.0)) mid.machine new.machine new.machine (r, new.server.server) (or_process r)
+      granted (finishes (or_process r) new.machine))))

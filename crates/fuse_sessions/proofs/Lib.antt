@@ -1,3 +1,2 @@
-mod ByDentries
 pub mod Doings
 mod Judging

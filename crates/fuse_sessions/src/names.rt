@@ -1,39 +1,32 @@
-//! Names that are looked up: each in a directory, and by a process of who asks, unless nobody is needed.
-ghost use Rattle.std.specs.Prelude.{◌≡◌, ◌+◌, ◌≤◌, Ok};
-ghost use Rattle.fuse_plans.specs.NamePlans.{find_name, searched_directory, found_or_absent, find_inside, searcher, new_valid};
+//! Names that are looked up: each in a directory, and as who asks, unless nobody is needed.
+ghost use Rattle.std.specs.Prelude.{◌≡◌, Ok};
+ghost use Rattle.fuse_plans.specs.Callers.{server_credential};
+ghost use Rattle.fuse_plans.specs.NamePlans.{find_name, searched_directory, found_or_absent, find_inside, tell_named, new_valid};
 ghost use Rattle.fuse_sessions.specs.Performing.{Did};
 
 use crate::session::Session;
 use fs_model::{Path, Status};
 use fuse_plans::{Asked, Replied, Tried};
 use fuse_steps::Machine;
+use fuse_steps::asker::{actor_in, who_asks};
 use fuse_steps::name::{
-    dentry, keeps_names, looked_up_body, or_absent, or_keep_absent, plain_name, unless_hidden,
+    found_body, keeps_names, looked_up_body, or_absent, or_keep_absent, plain_name, unless_hidden,
 };
 use fuse_steps::seen::look_inside;
 
 impl<M: Machine> Session<M> {
     /// What has a name in a directory.
     pub fn find_name(&mut self, asked: Asked, name: Path) -> Replied
-        requires { 3 ≤ self.old.server.room }
         ensures { Did M.Serves (find_name asked name) self.old self.new result }
     {
-        let needs_nobody = asked.needs_nobody;
         let dir_ino = self.searched_directory(asked.node, &name)?;
-        let pid = self.searcher(asked)?;
-        self.find_inside(needs_nobody, pid, dir_ino, name)
-    }
-
-    // By whom a name is looked up: by the server's own process where nobody is needed.
-    fn searcher(&mut self, asked: Asked) -> Tried<usize>
-        requires { 1 ≤ self.old.server.room }
-        ensures did { Did M.Serves (searcher asked) self.old self.new result }
-        ensures room { self.old.server.room ≤ self.new.server.room + 1 }
-    {
         if asked.needs_nobody {
-            return self.the_server_process();
+            return self.find_own(true, dir_ino, name);
         }
-        self.caller(asked.cred)
+        let cred = who_asks(asked.cred)?;
+        let actor = actor_in(cred, dir_ino);
+        let (seen, _name) = look_inside(&mut self.machine, &actor, name);
+        self.found_or_absent(false, seen)
     }
 
     // The directory in which a name is looked for.
@@ -41,48 +34,39 @@ impl<M: Machine> Session<M> {
         ensures { Did M.Serves (searched_directory node name.now) self.now self.now result }
     {
         plain_name(name)?;
-        or_absent(self.standing_directory(node))
+        or_absent(self.the_number(node))
     }
 
-    /// What a process finds under the name, or that it finds nothing.
-    pub fn find_inside(
-        &mut self,
-        needs_nobody: bool,
-        pid: usize,
-        dir_ino: u32,
-        name: Path,
-    ) -> Replied
-        requires { 2 ≤ self.old.server.room }
-        ensures did { Did M.Serves (find_inside needs_nobody pid dir_ino name) self.old self.new result }
-        ensures room { self.old.server.room ≤ self.new.server.room + 2 }
-        ensures directories { self.new.server.server.directories ≡ self.old.server.server.directories }
-        ensures listings { self.new.server.server.listings ≡ self.old.server.server.listings }
+    /// What the server finds under the name, or that it finds nothing.
+    pub fn find_own(&mut self, needs_nobody: bool, dir_ino: u32, name: Path) -> Replied
+        ensures did { Did M.Serves (find_inside needs_nobody server_credential dir_ino name) self.old self.new result }
+        ensures kept { self.new.server ≡ self.old.server }
     {
-        let (seen, name) = look_inside(&mut self.machine, pid, dir_ino, name);
+        let (seen, _name) = self.look_inside_own(dir_ino, name);
+        self.found_or_absent(needs_nobody, seen)
+    }
+
+    // What was found, or that nothing was, is told.
+    fn found_or_absent(&mut self, needs_nobody: bool, seen: Tried<Status>) -> Replied
+        ensures did { Did M.Serves (found_or_absent needs_nobody seen) self.old self.new result }
+        ensures kept { self.new.server ≡ self.old.server }
+    {
         match seen {
-            Ok(status) => self.tell_found(needs_nobody, dir_ino, name, status),
+            Ok(status) => {
+                let stamps = self.told_stamps(status.ino)?;
+                Ok(looked_up_body(&self.server, needs_nobody, status, stamps))
+            }
             Err(error) => or_keep_absent(self.server.settings(), needs_nobody, error),
         }
     }
 
-    // What was found under the name is told.
-    fn tell_found(
-        &mut self,
-        needs_nobody: bool,
-        dir_ino: u32,
-        name: Path,
-        status: Status,
-    ) -> Replied
-        requires { 2 ≤ self.old.server.room }
-        ensures did { Did M.Serves (found_or_absent needs_nobody dir_ino name (Ok status)) self.old self.new result }
-        ensures room { self.old.server.room ≤ self.new.server.room + 2 }
-        ensures directories { self.new.server.server.directories ≡ self.old.server.server.directories }
-        ensures listings { self.new.server.server.listings ≡ self.old.server.server.listings }
+    /// What is told of an object that has a name.
+    pub fn tell_named(&mut self, name_valid: u64, ino: u32) -> Replied
+        ensures { Did M.Serves (tell_named name_valid ino) self.old self.new result }
     {
+        let status = self.look(ino)?;
         let stamps = self.told_stamps(status.ino)?;
-        self.server
-            .note_found(dentry(dir_ino, name), status.ino, status.kind);
-        Ok(looked_up_body(&self.server, needs_nobody, status, stamps))
+        Ok(found_body(&self.server, name_valid, status, stamps))
     }
 
     /// For how many seconds the kernel may keep a new name in a directory.

@@ -1,42 +1,45 @@
 //! Who counts of those who ask: of others nothing is even learnt.
-ghost use Rattle.std.specs.Prelude.{◌≡◌, codes};
-ghost use Rattle.fuse_plans.specs.Masks.{seen_by_server_process, asks_list, list_hides, is_masked};
-ghost use Rattle.fuse_plans.specs.Callers.{look_inside};
-ghost use Rattle.fuse_plans.specs.Nobody.{asks_reading, grants_owner, is_judged, is_owner, needs_nobody, owns_object, who_counts};
+ghost use Rattle.std.specs.Prelude.{◌≡◌};
+ghost use Rattle.fuse_plans.specs.Flags.{mode_in};
+ghost use Rattle.fuse_plans.specs.Masks.{is_masked};
+ghost use Rattle.fuse_plans.specs.Nobody.{asks_alone, asks_to_open, is_granted, is_judged, needs_nobody, who_counts};
 ghost use Rattle.fuse_plans.specs.Plans.{CarriesOut};
 ghost use Rattle.fuse_sessions.specs.Performing.{Did};
 
 use crate::session::Session;
-use fs_model::{AclType, Call, Status};
-use fuse_plans::{Mode, RequestError, Tried, WhoCounts, needs_caller};
-use fuse_protocol::Operation;
+use fs_model::AclType;
+use fuse_plans::{Mode, Tried, WhoCounts, needs_caller};
+use fuse_protocol::{OpenFlags, Operation};
 use fuse_steps::Machine;
-use fuse_steps::acls::{hides, may_hide};
-use fuse_steps::flags::{is_exec, is_trunc};
-use fuse_steps::seen::shown;
+use fuse_steps::acls::granted_by;
+use fuse_steps::flags::{is_exec, reads_alone};
+use posix_acl::Perms;
 
-const OWNER_READS: u16 = 0o400;
+const READ: u16 = 4;
 
-const OWNER_SEARCHES: u16 = 0o100;
+const EXECUTE: u16 = 1;
 
-// The user owns what was shown, and its mode grants the owner this.
-fn grants_owner(uid: u32, bit: u16, status: Status) -> bool
-    ensures { result ≡ grants_owner uid bit status }
+// What opening asks where nothing is to change.
+fn asks_to_open(flags: OpenFlags) -> Option<Perms>
+    ensures { result ≡ asks_to_open flags.0 (mode_in flags.0) }
 {
-    status.owner == uid && status.mode & bit != 0
+    let mode = Mode::of_flags(flags)?;
+    if !reads_alone(flags, mode) {
+        return None;
+    }
+    Some(Perms::from_digit(if is_exec(flags) { EXECUTE } else { READ }))
 }
 
-// Nothing but reading is asked for: neither to run a file, nor that it lose its bytes.
-fn asks_reading(operation: &Operation<'_>) -> bool
-    ensures { result ≡ asks_reading operation.now }
+// What is asked of the object of the node, where nothing else is asked, and nothing changes.
+fn asks_alone(operation: &Operation<'_>) -> Option<Perms>
+    ensures { result ≡ asks_alone operation.now }
 {
     match operation {
-        Operation::OpenDir => true,
-        Operation::Open(flags) => match Mode::of_flags(*flags) {
-            Some(Mode::Reads) => !is_exec(*flags) && !is_trunc(*flags),
-            _ => false,
-        },
-        _ => false,
+        Operation::Lookup(_) => Some(Perms::from_digit(EXECUTE)),
+        Operation::Open(flags) => asks_to_open(*flags),
+        Operation::OpenDir => Some(Perms::from_digit(READ)),
+        Operation::Access(mask) => Some(Perms::from_digit((*mask & 7) as u16)),
+        _ => None,
     }
 }
 
@@ -50,12 +53,12 @@ impl<M: Machine> Session<M> {
         if self.needs_nobody(node, operation) {
             return WhoCounts::Nobody;
         }
-        if !asks_reading(operation) {
+        let Some(want) = asks_alone(operation) else {
             return WhoCounts::Process;
-        }
-        match self.is_owner(node, uid) {
-            Ok(owns) => {
-                if owns {
+        };
+        match self.is_granted(node, uid, want) {
+            Ok(granted) => {
+                if granted {
                     WhoCounts::User
                 } else {
                     WhoCounts::Process
@@ -65,43 +68,15 @@ impl<M: Machine> Session<M> {
         }
     }
 
-    // Whether the user owns the object of a node, and the directory in which it is asked for first, and both modes grant the owner
-    // what is needed to read it.
-    fn is_owner(&mut self, node: u64, uid: u32) -> Tried<bool>
-        ensures did { Did M.Serves (is_owner node uid) self.old self.new result }
+    // Whether a user is granted this of the object of a node, whatever its groups and capabilities are.
+    fn is_granted(&mut self, node: u64, uid: u32, want: Perms) -> Tried<bool>
+        ensures did { Did M.Serves (is_granted node uid want) self.old self.new result }
         ensures kept { self.new.server ≡ self.old.server }
     {
         let ino = self.the_number(node)?;
-        let Some(dentry) = self.server.dentry_of(ino) else {
-            return Err(RequestError::ESTALE);
-        };
-        let dir_ino = dentry.dir_ino;
-        let pid = self.the_server_process()?;
-        let above = self.look_above(pid, dir_ino)?;
-        self.owns_object(ino, uid, grants_owner(uid, OWNER_SEARCHES, above))
-    }
-
-    // The object is looked at only where the directory is the user's.
-    fn owns_object(&mut self, ino: u32, uid: u32, is_above: bool) -> Tried<bool>
-        ensures did { Did M.Serves (owns_object ino uid is_above) self.old self.new result }
-        ensures kept { self.new.server ≡ self.old.server }
-    {
-        if !is_above {
-            return Ok(false);
-        }
-        let status = self.seen_by_server_process(ino)?;
-        Ok(grants_owner(uid, OWNER_READS, status))
-    }
-
-    // What stat(2) shows a process of the directory that it enters.
-    fn look_above(&mut self, pid: usize, dir_ino: u32) -> Tried<Status>
-        ensures did { Did M.Serves (look_inside pid dir_ino (codes ".")) self.old self.new result }
-        ensures kept { self.new.server ≡ self.old.server }
-    {
-        let mut call = Call::Lstat(self.blank_path());
-        let reply = self.machine.obtain_inside(pid, dir_ino, &mut call);
-        call.discard();
-        shown(reply)
+        let status = self.look(ino)?;
+        let acl = self.list_of(ino, AclType::Access)?;
+        Ok(granted_by(status.owner, uid, want, &acl))
     }
 
     // Whether who asks doesn't count for an operation: it needs nobody, or the kernel has judged by the same modes and lists before
@@ -137,37 +112,7 @@ impl<M: Machine> Session<M> {
         ensures did { Did M.Serves (is_masked node) self.old self.new result }
         ensures kept { self.new.server ≡ self.old.server }
     {
-        let ino = self.directory_number(node)?;
+        let ino = self.the_number(node)?;
         self.list_hides(ino)
-    }
-
-    /// Whether Linux doesn't follow the access list of a directory.
-    pub(crate) fn list_hides(&mut self, ino: u32) -> Tried<bool>
-        ensures did { Did M.Serves (list_hides ino) self.old self.new result }
-        ensures kept { self.new.server ≡ self.old.server }
-    {
-        let status = self.seen_by_server_process(ino)?;
-        self.asks_list(ino, status)
-    }
-
-    // What stat(2) shows the server's own process.
-    fn seen_by_server_process(&mut self, ino: u32) -> Tried<Status>
-        ensures did { Did M.Serves (seen_by_server_process ino) self.old self.new result }
-        ensures kept { self.new.server ≡ self.old.server }
-    {
-        let reply = self.by_server_process(ino, Call::Lstat(self.blank_path()));
-        shown(reply)
-    }
-
-    // The list is asked for only where the mode may come from such a one.
-    fn asks_list(&mut self, ino: u32, status: Status) -> Tried<bool>
-        ensures did { Did M.Serves (asks_list ino status) self.old self.new result }
-        ensures kept { self.new.server ≡ self.old.server }
-    {
-        if !may_hide(status.mode) {
-            return Ok(false);
-        }
-        let acl = self.acl_of(ino, AclType::Access)?;
-        Ok(hides(&acl))
     }
 }

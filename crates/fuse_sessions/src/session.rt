@@ -2,9 +2,9 @@
 ghost use Rattle.std.specs.Prelude.{◌≡◌, IfOk, MatchResult};
 ghost use Rattle.fuse_state.specs.Servers.{new_server};
 
+use crate::own::Own;
 use fuse_state::{Server, Settings};
 use fuse_steps::Machine;
-use fuse_steps::paths::WithPaths;
 use std::alloc::Global;
 use std::mem;
 
@@ -13,26 +13,28 @@ use std::mem;
 pub struct Session<M> {
     /// Where memory comes from.
     pub alloc: Global,
-    /// The file system, with paths to lend.
-    pub machine: WithPaths<M>,
+    /// The file system.
+    pub machine: M,
+    /// The server as one who calls.
+    pub own: Own,
     /// What is kept of the requests.
     pub server: Server,
 }
 
 impl<M: Machine> Session<M> {
-    /// A session on a file system of which the server knows the root alone. Where memory is lacking the file system comes back.
+    /// A session on a file system. Where memory is lacking the file system comes back.
     pub fn new(alloc: Global, machine: M, settings: Settings) -> Result<Session<M>, M>
         ensures machine { MatchResult result (λ session. session.machine ≡ machine) (λ back. back ≡ machine) }
         ensures server { IfOk result (λ session. session.server.server ≡ new_server settings) }
     {
-        let machine = WithPaths::new(alloc, machine)?;
-        match Server::new(alloc, settings) {
-            Ok(server) => Ok(Session {
+        match Own::new(alloc) {
+            Ok(own) => Ok(Session {
                 alloc,
                 machine,
-                server,
+                own,
+                server: Server::new(alloc, settings),
             }),
-            Err(_) => Err(machine.into_machine()),
+            Err(_) => Err(machine),
         }
     }
 
@@ -48,6 +50,6 @@ impl<M: Machine> Session<M> {
         ensures { result ≡ self.machine }
     {
         mem::drop(self.server);
-        self.machine.into_machine()
+        self.machine
     }
 }

@@ -40,7 +40,7 @@ module _ {K X : Type 0} {R : K → K → Ordering} (o : IsTotalOrder R) where
     higher = λ j e le within. gap.higher (suc j) e (omega arith) (omega arith);
   }
 
-  pub put_in_gap : (m : List (K × X)) (k : K) (i : ℕ) (x : X) → IsGap R m k i → insert m i (k, x) ≡ with_entry R m k x
+  put_in_gap : (m : List (K × X)) (k : K) (i : ℕ) (x : X) → IsGap R m k i → insert m i (k, x) ≡ with_entry R m k x
   put_in_gap [] k zero x gap = refl
   put_in_gap [] k (suc i) x gap = refl
   put_in_gap (f ∷ m) k zero x gap = sym (put_before f m k x (gap.higher zero f (omega arith) (omega arith)))

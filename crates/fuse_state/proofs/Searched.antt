@@ -9,7 +9,6 @@ use Rattle.std.specs.Ordering.{is_lt, is_eq, ordering_index, ordering_reverse}
 use Rattle.std.specs.FinMap.{IsAntisymmetric}
 use Rattle.std.specs.FinMap.Entries.{below_all}
 use Rattle.std.specs.List.Sorted.{IsSearchInRange, IsBinarySearchResult, IsNonDecreasingBy}
-use Rattle.std.proofs.lemmas.List.{get_or_default}
 use Rattle.fs_layout.specs.Maps.{get, IsMap}
 use Rattle.fs_layout.proofs.FirstEntries.{left, right}
 use Rattle.fuse_state.specs.Tables.{IsAt, IsGap}
@@ -25,7 +24,7 @@ at_most_two Equal = omega arith
 at_most_two Greater = omega arith
 
 -- what a comparison says the other way round
-pub turned : {K : Type 0} {R : K → K → Ordering} (o : IsTotalOrder R) (x y : K) (r : Ordering) → R x y ≡ r → R y x ≡ ordering_reverse r
+turned : {K : Type 0} {R : K → K → Ordering} (o : IsTotalOrder R) (x y : K) (r : Ordering) → R x y ≡ r → R y x ≡ ordering_reverse r
 turned o x y r is = o.antisymm y x ∙ ap ordering_reverse is
 
 module _ {K : Type 0} {R : K → K → Ordering} (o : IsTotalOrder R) where
@@ -48,41 +47,34 @@ module _ {K X : Type 0} {R : K → K → Ordering} (o : IsTotalOrder R) where
   above_all k (f ∷ m) h zero e within = less (R k f.0) (left _ _ h)
   above_all k (f ∷ m) h (suc j) e within = above_all k m (right _ _ h) j e (omega arith)
 
-  pub rise : (m : List (K × X)) → IsMap R m → (i j : ℕ) (e : K × X) → i < j → j < length m → R (get_or m i e).0 (get_or m j e).0 ≡ Less
+  rise : (m : List (K × X)) → IsMap R m → (i j : ℕ) (e : K × X) → i < j → j < length m → R (get_or m i e).0 (get_or m j e).0 ≡ Less
   rise [] h i j e lt within = absurd (omega arith)
   rise (f ∷ m) h i zero e lt within = absurd (omega arith)
   rise (f ∷ m) h zero (suc j) e lt within = above_all f.0 m (left _ _ h) j e (omega arith)
   rise (f ∷ m) h (suc i) (suc j) e lt within = rise m (right _ _ h) i j e (omega arith) (omega arith)
 
-  -- ---- a binary search, among the keys or among what stands for them
+  -- ---- a binary search
 
-  module _ {A : Type 0} (xs : List A) (ord : A → Ordering) (m : List (K × X)) (k : K) (to : K × X → A) (from : A → K × X)
-      (long : length m ≡ length xs) (same : (j : ℕ) (a : A) (e : K × X) → j < length xs → ord (get_or xs j a) ≡ R (get_or m j e).0 k) where
-    comparisons_rise : IsMap R m → IsNonDecreasingBy (λ a. ordering_index (ord a)) xs
-    comparisons_rise h i j a le within = elim (cases_lt i j) [
-      | inl lt ↦
-          subst (λ q. ordering_index q ≤ ordering_index (ord (get_or xs j a))) (sym (same i a (from a) (omega arith)))
-          (subst (λ q. ordering_index (R (get_or m i (from a)).0 k) ≤ ordering_index q) (sym (same j a (from a) within))
-          (index_rises o _ _ k (rise m h i j (from a) lt (omega (arith, long, within)))))
-      | inr ge ↦ (let one : i ≡ j = omega arith in subst (λ n. ordering_index (ord (get_or xs n a)) ≤ ordering_index (ord (get_or xs j a))) (sym one) (omega arith))
+  module _ (m : List (K × X)) (k : K) where
+    comparisons_rise : IsMap R m → IsNonDecreasingBy (λ e. ordering_index (R e.0 k)) m
+    comparisons_rise h i j e le within = elim (cases_lt i j) [
+      | inl lt ↦ index_rises o _ _ k (rise m h i j e lt within)
+      | inr ge ↦ (let one : i ≡ j = omega arith in subst (λ n. ordering_index (R (get_or m n e).0 k) ≤ ordering_index (R (get_or m j e).0 k)) (sym one) (omega arith))
     ]
 
-    pub searched : IsAntisymmetric R → IsMap R m → (r : Result ℕ ℕ) → IsSearchInRange r (length xs) → IsBinarySearchResult ord xs r
+    pub searched : IsAntisymmetric R → IsMap R m → (r : Result ℕ ℕ) → IsSearchInRange r (length m) → IsBinarySearchResult (λ e. R e.0 k) m r
         → MatchResult r (IsAt m k) (IsGap R m k)
-    searched anti h (Ok i) within found = record {
-      within = omega (arith, long, within);
-      is = λ e. anti _ k (sym (same i (to e) e within) ∙ found (to e));
-    }
+    searched anti h (Ok i) within found = record { within = within; is = λ e. anti _ k (found e) }
     searched anti h (Err i) within parted = record {
-      within = omega (arith, long, within);
-      lower = λ j e lt. turned o _ k Less (sym (same j (to e) e (omega (arith, within, lt))) ∙ (parted (comparisons_rise h)).0 j (to e) (omega arith) lt);
-      higher = λ j e le lt. turned o _ k Greater (sym (same j (to e) e (omega (arith, long, lt))) ∙ (parted (comparisons_rise h)).1 j (to e) le (omega (arith, long, lt)));
+      within = omega (arith, within);
+      lower = λ j e lt. turned o _ k Less ((parted (comparisons_rise h)).0 j e (omega (arith, within, lt)) lt);
+      higher = λ j e le lt. turned o _ k Greater ((parted (comparisons_rise h)).1 j e le lt);
     }
 
   -- ---- what stands there
 
   -- at another key
-  pub at_other : (f : K × X) (m : List (K × X)) (k : K) → is_eq (R k f.0) ≡ false → get R (f ∷ m) k ≡ get R m k
+  at_other : (f : K × X) (m : List (K × X)) (k : K) → is_eq (R k f.0) ≡ false → get R (f ∷ m) k ≡ get R m k
   at_other f m k apart = ap (λ b. cond b (Some f.1) (get R m k)) apart
 
   pub later : (f : K × X) (m : List (K × X)) (k : K) (i : ℕ) → IsAt (f ∷ m) k (suc i) → IsAt m k i
@@ -115,8 +107,3 @@ module _ {K X : Type 0} {R : K → K → Ordering} (o : IsTotalOrder R) where
   pub get_lacking : (m : List (K × X)) (k : K) → LacksKey m k → get R m k ≡ None
   get_lacking [] k lacks = refl
   get_lacking (f ∷ m) k lacks = at_other f m k (lacks zero f (omega arith)) ∙ get_lacking m k (lacks_later f m k lacks)
-
-  -- each entry is found by its key
-  pub found_each : (m : List (K × X)) → IsMap R m → (j : ℕ) (e : K × X) → j < length m → get R m (get_or m j e).0 ≡ Some (get_or m j e).1
-  found_each m h j e within =
-      get_at m (get_or m j e).0 j e h (record { within = within; is = λ f. ap (λ x. x.0) (get_or_default m j f e within) })

@@ -2,7 +2,6 @@ pub mod Keepings
 pub mod Shares
 pub mod Stamps
 pub mod Servers
-pub mod Names
 pub mod Changes
 pub mod Tables
 pub mod Rooms

@@ -10,14 +10,9 @@ pub record Kept : Type 0 where
   pub room : ℕ
 
 -- each table has the room, and the handles of so many directories are numbers of 64 bits
-pub record HasTableRoom (room generations kinds lookups names times processes handles directories listings next_directory : ℕ) : Type 0 where
+pub record HasTableRoom (room generations times directories listings next_directory : ℕ) : Type 0 where
   pub for_generations : room ≤ generations
-  pub for_kinds : room ≤ kinds
-  pub for_lookups : room ≤ lookups
-  pub for_names : room ≤ names
   pub for_times : room ≤ times
-  pub for_processes : room ≤ processes
-  pub for_handles : room ≤ handles
   pub for_directories : room ≤ directories
   pub for_listings : room ≤ listings
   pub for_numbers : next_directory + room < 2 ^ 64

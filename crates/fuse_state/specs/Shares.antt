@@ -1,5 +1,5 @@
 -- How things of which there are few are shared among users.
---     process_shares, directory_shares        the shares
+--     directory_shares        the shares of open directories
 --     count_of        how many a user holds
 --     allows, may_hold        whether a user may hold one more
 --     HasEach, KeepsShares        what is so of those who hold some, as long as none takes more than it may
@@ -7,10 +7,6 @@
 use Rattle.std.specs.Prelude.{◌≡◌, ℕ, ◌+◌, ◌<◌, ◌≤◌, ◌==◌, nat_lt, min, suc, Bool, ◌&&◌, ◌||◌, cond, if◌then◌else◌, List, length}
 use Rattle.std.specs.List.{filter}
 use Rattle.fuse_state.specs.declared.shares.Shares.{Shares}
-
--- Of processes that hold descriptors. With all that are kept there are 60, so the machine has others.
-abbrev pub process_shares : Shares
-process_shares = record { open_to_all = 44; of_one = 32; firsts = 12; of_root = 4 }
 
 -- of open directories
 abbrev pub directory_shares : Shares

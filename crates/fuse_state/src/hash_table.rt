@@ -1,7 +1,7 @@
 //! A finite map from numbers, with room that is reserved, for which the order of its entries doesn't count.
 //!
 //! An entry comes and goes without moving the others, of which there may be as many as an image has inodes.
-ghost use Rattle.std.specs.Prelude.{◌≡◌, ◌+◌, ◌<◌, ◌≤◌, [], option_copied, OnOk, IsSome};
+ghost use Rattle.std.specs.Prelude.{◌≡◌, ◌+◌, ◌<◌, ◌≤◌, [], option_copied, OnOk};
 ghost use Rattle.std.specs.Ordering.{nat_cmp};
 ghost use Rattle.fs_layout.specs.Maps.{get, with_entry, without};
 
@@ -58,16 +58,6 @@ impl<V: Drop> HashTable<V> {
         ensures room { self.old.1 ≤ self.new.1 + 1 }
     {
         let _before = self.entries.insert(key, value);
-    }
-
-    /// Sets the value at a key that has one.
-    pub(crate) fn replace(&mut self, key: u64, value: V)
-        ensures replaced { IsSome (get nat_cmp self.old.0 key) → self.new.0 ≡ with_entry nat_cmp self.old.0 key value }
-        ensures room { self.new.1 ≡ self.old.1 }
-    {
-        if let Some(known) = self.entries.get_mut(&key) {
-            *known = value;
-        }
     }
 
     /// Takes away what is at a key.

@@ -22,4 +22,6 @@ pub struct Settings {
     pub keeps_times: bool,
     /// When the server began: the time of each object of which no other is known.
     pub start: Time,
+    /// So many seconds after the server itself made all last, it does so again, with the next request. 0: never for the time.
+    pub commit: u32,
 }

@@ -1,6 +1,6 @@
 //! How things of which there are few are shared among users.
 ghost use Rattle.std.specs.Prelude.{◌≡◌};
-ghost use Rattle.fuse_state.specs.Shares.{allows, process_shares, directory_shares};
+ghost use Rattle.fuse_state.specs.Shares.{allows, directory_shares};
 
 /// How many of a kind of things users may hold.
 #[derive(Clone, Copy)]
@@ -24,18 +24,6 @@ pub(crate) struct Held {
 }
 
 impl Shares {
-    /// The shares of processes that hold descriptors. There are 60 with all that are kept: the machine has 64.
-    pub(crate) fn of_processes() -> Shares
-        ensures { result ≡ process_shares }
-    {
-        Shares {
-            open_to_all: 44,
-            of_one: 32,
-            firsts: 12,
-            of_root: 4,
-        }
-    }
-
     /// The shares of open directories.
     pub(crate) fn of_directories() -> Shares
         ensures { result ≡ directory_shares }

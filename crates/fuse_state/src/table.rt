@@ -1,7 +1,7 @@
 //! A finite map from numbers, with room that is reserved.
 //!
-//! The entries stand in one `Vec` in the order of their keys. The first key that passes a test is asked for, so the order counts:
-//! a [`HashTable`](crate::hash_table::HashTable) has none, and `BTreeMap` reserves no room.
+//! The entries stand in one `Vec` in the order of their keys, so all of them can be gone over. A
+//! [`HashTable`](crate::hash_table::HashTable) gives none but those that are asked for, and `BTreeMap` reserves no room.
 ghost use Rattle.std.specs.Prelude.{◌≡◌, ◌+◌, ◌<◌, ◌≤◌, [], option_copied, OnOk, MatchResult};
 ghost use Rattle.std.specs.Ordering.{nat_cmp};
 ghost use Rattle.fs_layout.specs.Maps.{get, with_entry, without, IsMap};

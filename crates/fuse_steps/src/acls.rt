@@ -1,12 +1,16 @@
 //! ACLs: as attributes, and where they hide what is in a directory.
-ghost use Rattle.std.specs.Prelude.{◌≡◌, true, false};
+ghost use Rattle.std.specs.Prelude.{◌≡◌, ◌==◌, ◌&&◌, not, length, true, false};
+ghost use Rattle.fs_cred.specs.Permissions.{holds};
+ghost use Rattle.posix_acl.specs.Entries.{is_tag};
+ghost use Rattle.posix_acl.specs.declared.entry.Tag.TheVariants.{User};
 ghost use Rattle.fuse_plans.specs.Masks.{may_hide, grants_nothing, hides, told_acl};
+ghost use Rattle.fuse_plans.specs.Nobody.{all_hold, entries_for, mask_holds, grants_members, grants_user, is_granted_by};
 ghost use Rattle.fuse_plans.specs.AclPlans.{the_acl, acl_names, acl_size, sized, is_of_mode_alone};
 ghost use Rattle.fuse_plans.specs.Works.{of_result};
 
 use fs_model::{AclType, Bytes};
 use fuse_plans::{Replied, ReplyBody, RequestError, Tried};
-use posix_acl::{Acl, Perms};
+use posix_acl::{Acl, Entry, Perms, Tag};
 use std::alloc::{AllocError, Global};
 
 // Of a mode, what its group class and others are granted.
@@ -91,6 +95,86 @@ pub fn acl_size(acl: &Acl) -> usize
     ensures { result ≡ acl_size acl.now }
 {
     4 + 8 * acl.entries().len()
+}
+
+// Whether these permissions have all of what is wanted.
+fn holds(perms: Perms, want: Perms) -> bool
+    ensures { result ≡ holds perms want }
+{
+    (!want.read || perms.read) && (!want.write || perms.write) && (!want.execute || perms.execute)
+}
+
+// Whether an entry names the user.
+fn is_for(uid: u32, entry: Entry) -> bool
+    ensures { result ≡ (is_tag entry.tag User && entry.id == uid) }
+{
+    entry.tag.is(Tag::User) && entry.id == uid
+}
+
+// Whether some entry names the user.
+fn is_named(uid: u32, acl: &Acl) -> bool
+    ensures { result ≡ not (length (entries_for uid acl.now) == 0) }
+{
+    acl.entries().iter().any(|entry| is_for(uid, *entry))
+}
+
+// Whether each entry that names the user holds all of what is wanted.
+fn entries_hold(uid: u32, acl: &Acl, want: Perms) -> bool
+    ensures { result ≡ all_hold (entries_for uid acl.now) want }
+{
+    acl.entries()
+        .iter()
+        .all(|entry| !is_for(uid, *entry) || holds(entry.perms, want))
+}
+
+// Whether there is a mask that holds all of what is wanted.
+fn mask_holds(mask: Option<Perms>, want: Perms) -> bool
+    ensures { result ≡ mask_holds mask want }
+{
+    match mask {
+        Some(mask) => holds(mask, want),
+        None => false,
+    }
+}
+
+// Whether a user that has an entry is granted all of what is wanted: by the entry, and by the mask.
+fn grants_named(uid: u32, acl: &Acl, want: Perms) -> bool
+    ensures { result ≡ (all_hold (entries_for uid acl.now) want && mask_holds acl.now.mask want) }
+{
+    entries_hold(uid, acl, want) && mask_holds(acl.mask(), want)
+}
+
+// Whether the members of each group, and who is in none, are granted all of what is wanted: each entry but those of the owner and of
+// named users holds it, the mask among them.
+fn grants_members(acl: &Acl, want: Perms) -> bool
+    ensures { result ≡ grants_members acl.now want }
+{
+    acl.entries().iter().all(|entry| matches!(entry.tag, Tag::UserObj | Tag::User)
+        || holds(entry.perms, want))
+}
+
+/// Whether a user is granted all of `want` whatever its groups and capabilities are: as the owner, as a named user, or as a member of
+/// each group and of none.
+pub fn grants_user(owner: u32, uid: u32, acl: &Acl, want: Perms) -> bool
+    ensures { result ≡ grants_user owner uid acl.now want }
+{
+    if owner == uid {
+        holds(acl.owner(), want)
+    } else if is_named(uid, acl) {
+        grants_named(uid, acl, want)
+    } else {
+        grants_members(acl, want)
+    }
+}
+
+/// Whether a user is granted all of `want` by an access list, where there is one.
+pub fn granted_by(owner: u32, uid: u32, want: Perms, acl: &Option<Acl>) -> bool
+    ensures { result ≡ is_granted_by owner uid want acl.now }
+{
+    match acl {
+        Some(acl) => grants_user(owner, uid, acl, want),
+        None => false,
+    }
 }
 
 // The name of the first ACL has so many bytes, and NUL.

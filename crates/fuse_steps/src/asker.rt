@@ -2,20 +2,48 @@
 //!
 //! Events, calls and replies are let go by `discard`, here and elsewhere: where they go in place, each of their kinds is a case
 //! of that function's proof.
-ghost use Rattle.std.specs.Prelude.{◌≡◌, Some, Err, Ok, IfOk, IsSome, IsTrue, MatchResult};
+ghost use Rattle.std.specs.Prelude.{◌≡◌, Err, Ok, IsTrue, MatchResult};
 ghost use Rattle.fs_model.specs.Steps.{is_of_machine};
-ghost use Rattle.fs_model.specs.declared.event.Event.TheVariants.{Call as Calls, Enter};
+ghost use Rattle.fs_model.specs.declared.event.Event.TheVariants.{CallAt, CallBy};
+ghost use Rattle.fs_model.specs.declared.event.HandleCall.TheVariants.{Close};
+ghost use Rattle.fs_model.specs.declared.reply.Reply.{Reply as ReplyOf};
 ghost use Rattle.fuse_plans.specs.Works.{give, ask, obtain, of_result, or_closed, refusal_in, unless_refused};
-ghost use Rattle.fuse_plans.specs.Callers.{between, inside, done_between};
-ghost use Rattle.fuse_plans.specs.Paths.{name_in};
+ghost use Rattle.fuse_plans.specs.Callers.{actor_at, actor_in, inside, object_error, on, who_asks};
 ghost use Rattle.fuse_steps.specs.Performing.{DidByMachine};
 
-use crate::machine::{Machine, OpenFile};
-use crate::path::name_in;
-use fs_cred::Refusal;
-use fs_layout::ROOT;
-use fs_model::{Call, Event, Path, Reply};
+use crate::machine::Machine;
+use fs_cred::{Cred, Errno, Refusal};
+use fs_model::{Actor, Call, Event, HandleCall, Reply};
 use fuse_plans::{RequestError, Tried};
+
+/// The credential of who asks: EACCES where not all groups are known, since an entry for one may deny.
+pub fn who_asks(cred: Option<Cred>) -> Tried<Cred>
+    ensures { who_asks cred ≡ of_result result }
+{
+    match cred {
+        Some(cred) => Ok(cred),
+        None => Err(RequestError::EACCES),
+    }
+}
+
+/// Who makes things with this mask, whose first paths start at one object, and second ones at another.
+pub fn actor_at(cred: Cred, umask: u16, start: u32, second_start: u32) -> Actor
+    ensures { result ≡ actor_at cred umask start second_start }
+{
+    Actor {
+        cred,
+        umask,
+        start,
+        second_start,
+    }
+}
+
+/// Who makes nothing, and whose paths start at one object.
+pub fn actor_in(cred: Cred, ino: u32) -> Actor
+    ensures { result ≡ actor_in cred ino }
+{
+    actor_at(cred, 0, ino, ino)
+}
 
 // The refusal that a reply is.
 fn refusal_in(reply: &Reply) -> Option<Refusal>
@@ -45,11 +73,18 @@ pub fn ask<M: Machine>(machine: &mut M, event: &Event) -> Reply
     machine.serve(event)
 }
 
-/// The reply to a call of a process.
-pub fn ask_call<M: Machine>(machine: &mut M, pid: usize, call: &Call) -> Reply
-    ensures { DidByMachine M.Serves (ask (Calls pid call.now)) machine.old machine.new (Ok result) }
+// The reply to a call of an actor.
+fn ask_at<M: Machine>(machine: &mut M, actor: &Actor, call: &Call) -> Reply
+    ensures { DidByMachine M.Serves (ask (CallAt actor.now call.now)) machine.old machine.new (Ok result) }
 {
-    machine.call(pid, call)
+    machine.call_at(actor, call)
+}
+
+// The reply to a call by a handle.
+fn ask_by<M: Machine>(machine: &mut M, handle: u64, call: &HandleCall) -> Reply
+    ensures { DidByMachine M.Serves (ask (CallBy handle call.now)) machine.old machine.new (Ok result) }
+{
+    machine.call_by(handle, call)
 }
 
 /// The reply to an event, unless that is a refusal.
@@ -62,72 +97,69 @@ pub fn obtain<M: Machine>(machine: &mut M, event: Event) -> Tried<Reply>
     unless_refused(reply)
 }
 
-/// The reply to a call of a process, unless that is a refusal.
-pub fn obtain_call<M: Machine>(machine: &mut M, pid: usize, call: &Call) -> Tried<Reply>
-    ensures { DidByMachine M.Serves (obtain (Calls pid call.now)) machine.old machine.new result }
+/// The reply to a call of an actor, unless that is a refusal.
+pub fn obtain_at<M: Machine>(machine: &mut M, actor: &Actor, call: &Call) -> Tried<Reply>
+    ensures { DidByMachine M.Serves (obtain (CallAt actor.now call.now)) machine.old machine.new result }
 {
-    let reply = ask_call(machine, pid, call);
+    let reply = ask_at(machine, actor, call);
     unless_refused(reply)
 }
 
-/// The reply to a call of a process that is made once, unless that is a refusal.
-pub fn obtain_once<M: Machine>(machine: &mut M, pid: usize, call: Call) -> Tried<Reply>
-    ensures { DidByMachine M.Serves (obtain (Calls pid call)) machine.old machine.new result }
+/// The reply to a call by a handle, unless that is a refusal.
+pub fn obtain_by<M: Machine>(machine: &mut M, handle: u64, call: &HandleCall) -> Tried<Reply>
+    ensures { DidByMachine M.Serves (obtain (CallBy handle call.now)) machine.old machine.new result }
 {
-    let reply = obtain_call(machine, pid, &call);
-    call.discard();
-    reply
-}
-
-// A process goes to a directory, and with the second names of its calls to another.
-fn enter<M: Machine>(machine: &mut M, pid: usize, dir_ino: u32, second_ino: u32) -> Reply
-    ensures { DidByMachine M.Serves (ask (Enter pid dir_ino second_ino)) machine.old machine.new (Ok result) }
-{
-    let event = Event::Enter {
-        pid,
-        dir_ino,
-        second_ino,
-    };
-    let reply = ask(machine, &event);
-    event.discard();
-    reply
-}
-
-/// The reply to a call with names of one directory, or of two. Afterwards the process stands at the root again.
-///
-/// The error is that of the way there, and then no call was made, or that of the call.
-pub fn between<M: Machine>(
-    machine: &mut M,
-    pid: usize,
-    dir_ino: u32,
-    second_ino: u32,
-    call: &Call,
-) -> Tried<Reply>
-    ensures { DidByMachine M.Serves (between pid dir_ino second_ino call.now) machine.old machine.new result }
-{
-    unless_refused(enter(machine, pid, dir_ino, second_ino))?.discard();
-    let reply = ask_call(machine, pid, call);
-    let back = enter(machine, pid, ROOT, ROOT);
-    back.discard();
+    let reply = ask_by(machine, handle, call);
     unless_refused(reply)
 }
 
-/// The reply to a call with names of one directory. The name of what it is about comes back.
-pub fn inside<M: Machine>(
-    machine: &mut M,
-    pid: usize,
-    dir_ino: u32,
-    call: Call,
-) -> (Tried<Reply>, Path)
-    requires { IsSome (name_in call) }
-    ensures did { DidByMachine M.Serves (inside pid dir_ino call) machine.old machine.new result.0 }
-    ensures name { name_in call ≡ Some result.1 }
+/// The same of a call that is made once.
+pub fn obtain_by_once<M: Machine>(machine: &mut M, handle: u64, call: HandleCall) -> Tried<Reply>
+    ensures { DidByMachine M.Serves (obtain (CallBy handle call)) machine.old machine.new result }
 {
-    let reply = between(machine, pid, dir_ino, dir_ino, &call);
-    let Some(name) = name_in(call) else {
-        unreachable!()
-    };
-    (reply, name)
+    obtain_by(machine, handle, &call)
+}
+
+/// A handle is closed. The reply doesn't count.
+pub fn close<M: Machine>(machine: &mut M, handle: u64)
+    ensures { (reply : ReplyOf) × DidByMachine M.Serves (ask (CallBy handle Close)) machine.old machine.new (Ok reply) }
+{
+    let call = HandleCall::Close;
+    ask_by(machine, handle, &call).discard();
+}
+
+/// The reply to a call with names of one directory.
+pub fn inside<M: Machine>(machine: &mut M, actor: &Actor, call: &Call) -> Tried<Reply>
+    requires { actor.now ≡ actor_in actor.now.cred actor.now.start }
+    ensures { DidByMachine M.Serves (inside actor.now.cred actor.now.start call.now) machine.old machine.new result }
+{
+    obtain_at(machine, actor, call)
+}
+
+// Where the object is gone the node is stale; and what isn't done to a link isn't supported.
+fn object_error(refusal: Refusal) -> RequestError
+    ensures { result ≡ object_error refusal }
+{
+    let error = RequestError::Refuses(refusal);
+    if error.is_for(Errno::ENOENT) {
+        return RequestError::ESTALE;
+    }
+    if error.is_for(Errno::ELOOP) {
+        return RequestError::EOPNOTSUPP;
+    }
+    error
+}
+
+/// The reply to a call on an object, whose path is empty.
+pub fn on<M: Machine>(machine: &mut M, actor: &Actor, call: &Call) -> Tried<Reply>
+    requires { actor.now ≡ actor_in actor.now.cred actor.now.start }
+    ensures { DidByMachine M.Serves (on actor.now.cred actor.now.start call.now) machine.old machine.new result }
+{
+    let reply = ask_at(machine, actor, call);
+    match refusal_in(&reply) {
+        Some(refusal) => Err(object_error(refusal)),
+        None => Ok(reply),
+    }
 }
 
 /// The reply says no more than that it was done.
@@ -143,30 +175,15 @@ pub fn done(tried: Tried<Reply>) -> Tried<()>
     }
 }
 
-/// Where the work failed the process closes what it has opened. The reply to that doesn't count.
-pub fn or_closed<M: Machine, T>(machine: &mut M, file: OpenFile, tried: Tried<T>) -> Tried<T>
-    ensures { DidByMachine M.Serves (or_closed file.pid file.fd tried) machine.old machine.new result }
+/// Where the work failed what was opened is closed. The reply to that doesn't count.
+pub fn or_closed<M: Machine, T>(machine: &mut M, handle: u64, tried: Tried<T>) -> Tried<T>
+    ensures { DidByMachine M.Serves (or_closed handle tried) machine.old machine.new result }
 {
     match tried {
         Ok(value) => Ok(value),
         Err(error) => {
-            let call = Call::Close(file.fd);
-            ask_call(machine, file.pid, &call).discard();
-            call.discard();
+            close(machine, handle);
             Err(error)
         }
     }
-}
-
-/// A call with names of one directory, or of two, whose reply says no more than that it was done.
-pub fn done_between<M: Machine>(
-    machine: &mut M,
-    pid: usize,
-    dir_ino: u32,
-    second_ino: u32,
-    call: &Call,
-) -> Tried<()>
-    ensures { DidByMachine M.Serves (done_between pid dir_ino second_ino call.now) machine.old machine.new result }
-{
-    done(between(machine, pid, dir_ino, second_ino, call))
 }

@@ -1,34 +1,15 @@
-//! Changes of attributes: what of them is to be set, and by whom.
+//! Changes of attributes: what of them is to be set, and by whom; and what comes of some errors.
 ghost use Rattle.std.specs.Prelude.{◌≡◌, ◌&&◌, ◌||◌, not, is_some};
-ghost use Rattle.fuse_plans.specs.AttributePlans.{differs, owners_stay, is_now};
+ghost use Rattle.fuse_plans.specs.AttributePlans.{is_now, or_not_permitted, or_of_link};
+ghost use Rattle.fuse_plans.specs.AclPlans.{or_not_for_files};
+ghost use Rattle.fuse_plans.specs.DirectoryPlans.{or_removed};
 ghost use Rattle.fuse_plans.specs.Works.{of_result};
 ghost use Rattle.fs_cred.specs.Ownership.{counts_as_owner};
 
-use fs_cred::{Cred, may_own};
-use fs_model::Status;
-use fuse_plans::{RequestError, Tried};
+use fs_cred::{Cred, Errno, may_own};
+use fs_model::Reply;
+use fuse_plans::{OtherErrno, RequestError, Tried};
 use fuse_protocol::{AttrChanges, NewTime};
-
-// Whether a number is to be set that isn't there already.
-fn differs(wanted: Option<u32>, present: u32) -> bool
-    ensures { result ≡ differs wanted present }
-{
-    match wanted {
-        Some(wanted) => wanted != present,
-        None => false,
-    }
-}
-
-/// Neither the owner nor the group are to be others.
-pub fn owners_stay(changes: &AttrChanges, status: Status) -> Tried<(Option<u32>, Option<u32>)>
-    ensures { owners_stay changes.now status ≡ of_result result }
-{
-    if differs(changes.uid, status.owner) || differs(changes.gid, status.group) {
-        Err(RequestError::EOPNOTSUPP)
-    } else {
-        Ok((None, None))
-    }
-}
 
 // Whether a time is set to the present.
 fn is_now(time: Option<NewTime>) -> bool
@@ -44,18 +25,11 @@ pub fn counts_as_owner(cred: &Cred, owner: u32) -> bool
     may_own(cred, owner).is_ok()
 }
 
-/// Whether what a link has not is to change.
-pub fn changes_more(changes: &AttrChanges) -> bool
-    ensures { result ≡ (is_some changes.now.mode || is_some changes.now.size) }
-{
-    changes.mode.is_some() || changes.size.is_some()
-}
-
 /// Whether an owner or a group is to be set.
-pub fn sets_owners(owners: (Option<u32>, Option<u32>)) -> bool
-    ensures { result ≡ (is_some owners.0 || is_some owners.1) }
+pub fn sets_owners(changes: &AttrChanges) -> bool
+    ensures { result ≡ (is_some changes.now.uid || is_some changes.now.gid) }
 {
-    owners.0.is_some() || owners.1.is_some()
+    changes.uid.is_some() || changes.gid.is_some()
 }
 
 /// Whether a time is to be set.
@@ -66,8 +40,69 @@ pub fn sets_times(changes: &AttrChanges) -> bool
 }
 
 /// Whether times are set that only an owner may set.
-pub fn needs_owner(link: bool, changes: &AttrChanges) -> bool
-    ensures { result ≡ (link || not (is_now changes.now.atime && is_now changes.now.mtime)) }
+pub fn needs_owner(changes: &AttrChanges) -> bool
+    ensures { result ≡ not (is_now changes.now.atime && is_now changes.now.mtime) }
 {
-    link || !is_now(changes.atime) || !is_now(changes.mtime)
+    !(is_now(changes.atime) && is_now(changes.mtime))
+}
+
+/// A link is never written to: EPERM.
+pub fn or_not_permitted(written: Tried<Reply>) -> Tried<()>
+    ensures { or_not_permitted written ≡ of_result result }
+{
+    match written {
+        Ok(reply) => {
+            reply.discard();
+            Ok(())
+        }
+        Err(RequestError::Lacks(OtherErrno::EOPNOTSUPP)) => Err(RequestError::EPERM),
+        Err(error) => Err(error),
+    }
+}
+
+/// On a link access is never refused.
+pub fn or_of_link(accessed: Tried<Reply>) -> Tried<()>
+    ensures { or_of_link accessed ≡ of_result result }
+{
+    match accessed {
+        Ok(reply) => {
+            reply.discard();
+            Ok(())
+        }
+        Err(RequestError::Lacks(OtherErrno::EOPNOTSUPP)) => Ok(()),
+        Err(error) => Err(error),
+    }
+}
+
+/// A directory that was removed has no names, and of it nothing is asked.
+pub fn or_removed(read: Tried<Reply>) -> Tried<()>
+    ensures { or_removed read ≡ of_result result }
+{
+    match read {
+        Ok(reply) => {
+            reply.discard();
+            Ok(())
+        }
+        Err(RequestError::Lacks(OtherErrno::ESTALE)) => Ok(()),
+        Err(error) => Err(error),
+    }
+}
+
+/// Only a directory has a default ACL: EACCES, as setxattr(2) has it.
+pub fn or_not_for_files(set: Tried<Reply>) -> Tried<()>
+    ensures { or_not_for_files set ≡ of_result result }
+{
+    match set {
+        Ok(reply) => {
+            reply.discard();
+            Ok(())
+        }
+        Err(error) => {
+            if error.is_for(Errno::ENOTDIR) {
+                Err(RequestError::EACCES)
+            } else {
+                Err(error)
+            }
+        }
+    }
 }

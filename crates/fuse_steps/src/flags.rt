@@ -1,6 +1,6 @@
 //! How a request opens a file, and how the machine does.
 ghost use Rattle.std.specs.Prelude.{◌≡◌};
-ghost use Rattle.fuse_plans.specs.Flags.{is_exec, is_excl, is_trunc, flags_of_mode, opening, creating, making, listing};
+ghost use Rattle.fuse_plans.specs.Flags.{is_exec, is_excl, is_trunc, reads_alone, flags_of_mode, opening, creating, making, listing};
 
 use bitflags::Flags as _;
 use fs_model::Flags;
@@ -26,6 +26,16 @@ pub fn is_trunc(flags: OpenFlags) -> bool
     ensures { result ≡ is_trunc flags.0 }
 {
     flags.bits() & OpenFlags::TRUNC.bits() != 0
+}
+
+/// Whether it is opened for nothing but to read: neither to write, nor that it lose its bytes.
+pub fn reads_alone(flags: OpenFlags, mode: Mode) -> bool
+    ensures { result ≡ reads_alone flags.0 mode }
+{
+    match mode {
+        Mode::Reads => !is_trunc(flags),
+        Mode::Writes | Mode::Both => false,
+    }
 }
 
 // For what a file is opened, and how.

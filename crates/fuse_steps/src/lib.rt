@@ -15,11 +15,9 @@ pub mod listing;
 mod machine;
 pub mod name;
 pub mod name_room;
-pub mod path;
-pub mod paths;
 pub mod replies;
 pub mod runs;
 pub mod seen;
 pub mod times;
 
-pub use machine::{Machine, OpenFile};
+pub use machine::Machine;

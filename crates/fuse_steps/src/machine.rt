@@ -1,12 +1,9 @@
 //! What events are asked of.
-ghost use Rattle.std.specs.Prelude.{◌≡◌, IsTrue};
+ghost use Rattle.std.specs.Prelude.{IsTrue};
 ghost use Rattle.fs_model.specs.Steps.{is_of_machine};
-ghost use Rattle.fs_model.specs.declared.event.Event.TheVariants.{Spawn, Call as Calls};
-ghost use Rattle.fuse_state.specs.Servers.{owner_of, descriptor_of};
+ghost use Rattle.fs_model.specs.declared.event.Event.TheVariants.{CallAt, CallBy};
 
-use fs_cred::Cred;
-use fs_model::{Call, Event, Reply};
-use fuse_state::{descriptor_of, owner_of};
+use fs_model::{Actor, Call, Event, HandleCall, Reply};
 
 /// A file system as a server asks it: it answers one event after another.
 pub trait Machine {
@@ -21,31 +18,11 @@ pub trait Machine {
         requires { IsTrue (is_of_machine event.now) }
         ensures { Serves self.old event.now result self.new };
 
-    /// The reply to a call of the process with this number.
-    fn call(&mut self, pid: usize, call: &Call) -> Reply
-        ensures { Serves self.old (Calls pid call.now) result self.new };
+    /// The reply to a call of an actor.
+    fn call_at(&mut self, actor: &Actor, call: &Call) -> Reply
+        ensures { Serves self.old (CallAt actor.now call.now) result self.new };
 
-    /// The reply to a new process with a copy of this credential.
-    fn spawn(&mut self, cred: &Cred) -> Reply
-        ensures { Serves self.old (Spawn cred.now) result self.new };
-}
-
-/// What a process has opened: the process, and one of its descriptors.
-#[derive(Clone, Copy)]
-pub struct OpenFile {
-    pub pid: usize,
-    pub fd: usize,
-}
-
-impl OpenFile {
-    /// What is open at a handle.
-    pub fn of_handle(handle: u64) -> OpenFile
-        ensures pid { result.pid ≡ owner_of handle }
-        ensures fd { result.fd ≡ descriptor_of handle }
-    {
-        OpenFile {
-            pid: owner_of(handle),
-            fd: descriptor_of(handle),
-        }
-    }
+    /// The reply to a call by the handle with this number.
+    fn call_by(&mut self, handle: u64, call: &HandleCall) -> Reply
+        ensures { Serves self.old (CallBy handle call.now) result self.new };
 }

@@ -1,24 +1,13 @@
 //! Names in requests, and what is told of what has one.
-ghost use Rattle.std.specs.Prelude.{◌≡◌, if◌then◌else◌};
-ghost use Rattle.fuse_plans.specs.FilePlans.{only_inode};
-ghost use Rattle.fuse_plans.specs.NamePlans.{dentry, plain_name, attributes, found_body, judged_valid, looked_up_body, keeps_absent, or_keep_absent, keeps_names, unless_hidden, or_absent, only_file, only_no_replace, none_there};
-ghost use Rattle.fuse_plans.specs.Works.{give, fail, of_result};
+ghost use Rattle.std.specs.Prelude.{◌≡◌};
+ghost use Rattle.fuse_plans.specs.NamePlans.{plain_name, attributes, found_body, judged_valid, looked_up_body, keeps_absent, or_keep_absent, keeps_names, unless_hidden, or_absent, only_file, only_no_replace, none_there};
+ghost use Rattle.fuse_plans.specs.Works.{of_result};
 
 use crate::times::times_in;
 use fs_cred::Errno;
-use fs_model::{Name, Path, Reply, Stamps, Status};
+use fs_model::{Path, Reply, Stamps, Status};
 use fuse_plans::{Attributes, OtherErrno, Replied, ReplyBody, RequestError, Tried};
-use fuse_state::{Dentry, Server, Settings};
-
-/// The name of a path in a directory.
-pub fn dentry(dir_ino: u32, path: Path) -> Dentry
-    ensures { result ≡ dentry dir_ino path }
-{
-    Dentry {
-        dir_ino,
-        name: Name::new(path.into_bytes()),
-    }
-}
+use fuse_state::{Server, Settings};
 
 /// Nobody asks for `.` or `..` by name: the kernel resolves these itself. EINVAL for them.
 pub fn plain_name(name: &Path) -> Tried<()>
@@ -30,24 +19,6 @@ pub fn plain_name(name: &Path) -> Tried<()>
     } else {
         Ok(())
     }
-}
-
-/// What was shown is this object: a name may lead to another by now. ESTALE then.
-pub fn only_inode(ino: u32, status: Status) -> Tried<()>
-    ensures { only_inode ino status ≡ of_result result }
-{
-    if status.ino == ino {
-        Ok(())
-    } else {
-        Err(RequestError::ESTALE)
-    }
-}
-
-/// The number of an object, where that is so; else the error.
-pub fn only_if(is_so: bool, ino: u32, error: RequestError) -> Tried<u32>
-    ensures { (if is_so then give ino else fail error) ≡ of_result result }
-{
-    if is_so { Ok(ino) } else { Err(error) }
 }
 
 /// What is told of an object: what stat(2) shows, and its times: the machine's, where it has any.
@@ -136,7 +107,7 @@ pub fn unless_hidden(name_valid: u64, hides: Tried<bool>) -> u64
     }
 }
 
-/// A directory that was removed has no names: ENOENT in place of ESTALE.
+/// A directory that is gone has no names: ENOENT in place of ESTALE.
 pub fn or_absent(known: Tried<u32>) -> Tried<u32>
     ensures { or_absent known ≡ of_result result }
 {

@@ -1,25 +1,9 @@
 //! What replies of the machine hold.
 ghost use Rattle.std.specs.Prelude.{◌≡◌};
-ghost use Rattle.fuse_plans.specs.Works.{pid_of_reply, status_of_reply, stamps_of_reply, fd_of_reply, count_of_reply, space_of_reply, data_of_reply, target_of_reply, acl_of_reply, names_of_reply, handle_within, within, count_within};
+ghost use Rattle.fuse_plans.specs.Works.{status_of_reply, stamps_of_reply, opened_of_reply, number_of_reply, count_of_reply, space_of_reply, data_of_reply, target_of_reply, acl_of_reply, names_of_reply, within, count_within};
 
 use fs_model::{Bytes, Listing, Path, Reply, Stamps, Status};
-use fuse_state::handle_of;
 use posix_acl::Acl;
-
-// More processes than these there aren't, numbered from 1 on, and more descriptors of one.
-const MAX_PROCESSES: usize = 64;
-
-const DESCRIPTORS: usize = 32;
-
-/// A new process.
-pub fn pid_of_reply(reply: &Reply) -> Option<usize>
-    ensures { result ≡ pid_of_reply reply.now }
-{
-    match reply {
-        Reply::Pid(pid) => Some(*pid),
-        _ => None,
-    }
-}
 
 /// What stat(2) shows.
 pub fn status_of_reply(reply: &Reply) -> Option<Status>
@@ -41,12 +25,22 @@ pub fn stamps_of_reply(reply: &Reply) -> Option<Stamps>
     }
 }
 
-/// A descriptor.
-pub fn fd_of_reply(reply: &Reply) -> Option<usize>
-    ensures { result ≡ fd_of_reply reply.now }
+/// The handle of what was opened, and its inode.
+pub fn opened_of_reply(reply: &Reply) -> Option<(u64, u32)>
+    ensures { result ≡ opened_of_reply reply.now }
 {
     match reply {
-        Reply::Fd(fd) => Some(*fd),
+        Reply::Opened { handle, ino } => Some((*handle, *ino)),
+        _ => None,
+    }
+}
+
+/// The inode of what was made.
+pub fn number_of_reply(reply: &Reply) -> Option<u32>
+    ensures { result ≡ number_of_reply reply.now }
+{
+    match reply {
+        Reply::Made(ino) => Some(*ino),
         _ => None,
     }
 }
@@ -120,16 +114,6 @@ pub fn names_of_reply(reply: Reply) -> Option<Listing>
             other.discard();
             None
         }
-    }
-}
-
-/// The handle of a process's descriptor, where both lie within their limits.
-pub fn handle_within(pid: usize, fd: Option<usize>) -> Option<u64>
-    ensures { result ≡ handle_within pid fd }
-{
-    match fd {
-        Some(fd) if pid <= MAX_PROCESSES && fd < DESCRIPTORS => Some(handle_of(pid, fd)),
-        _ => None,
     }
 }
 

@@ -1,15 +1,15 @@
-//! What stat(2) shows.
-ghost use Rattle.std.specs.Prelude.{◌≡◌, Err, MatchResult};
-ghost use Rattle.fuse_plans.specs.Callers.{look_inside};
-ghost use Rattle.fuse_plans.specs.FilePlans.{show_open, confirm_shown, confirm_open};
+//! What stat(2) shows, and what was opened or made.
+ghost use Rattle.std.specs.Prelude.{◌≡◌, ℕ, List, Some, Err, MatchResult};
+ghost use Rattle.fs_model.specs.declared.call.Call.TheVariants.{Lstat};
+ghost use Rattle.fuse_plans.specs.Callers.{actor_in, look_inside};
+ghost use Rattle.fuse_plans.specs.NamePlans.{number_shown};
+ghost use Rattle.fuse_plans.specs.Works.{of_result, replied_status, replied_opened, replied_number};
 ghost use Rattle.fuse_steps.specs.Performing.{DidByMachine};
-ghost use Rattle.fuse_plans.specs.Works.{of_result, replied_status};
 
-use crate::asker::{done, inside, obtain_once, or_closed};
-use crate::machine::{Machine, OpenFile};
-use crate::name::only_inode;
-use crate::replies::status_of_reply;
-use fs_model::{Call, Path, Reply, Status};
+use crate::asker::inside;
+use crate::machine::Machine;
+use crate::replies::{number_of_reply, opened_of_reply, status_of_reply};
+use fs_model::{Actor, Call, Path, Reply, Status};
 use fuse_plans::{RequestError, Tried};
 
 /// What stat(2) shows, in a reply that may be a refusal.
@@ -29,48 +29,63 @@ pub fn shown(reply: Tried<Reply>) -> Tried<Status>
     }
 }
 
+/// The handle of what was opened, and its inode.
+pub fn replied_opened(reply: Reply) -> Tried<(u64, u32)>
+    ensures { replied_opened reply ≡ of_result result }
+{
+    let opened = opened_of_reply(&reply);
+    reply.discard();
+    match opened {
+        Some(opened) => Ok(opened),
+        None => Err(RequestError::EIO),
+    }
+}
+
+/// The inode of what was made.
+pub fn replied_number(reply: Reply) -> Tried<u32>
+    ensures { replied_number reply ≡ of_result result }
+{
+    let ino = number_of_reply(&reply);
+    reply.discard();
+    match ino {
+        Some(ino) => Ok(ino),
+        None => Err(RequestError::EIO),
+    }
+}
+
+/// The name that was looked at.
+pub(crate) fn name_looked_at(call: Call) -> Option<Path>
+    ensures { (name : List ℕ) → call ≡ Lstat name → result ≡ Some name }
+{
+    match call {
+        Call::Lstat(name) => Some(name),
+        other => {
+            other.discard();
+            None
+        }
+    }
+}
+
 /// What stat(2) shows of a name in a directory. The name comes back.
-pub fn look_inside<M: Machine>(
-    machine: &mut M,
-    pid: usize,
-    dir_ino: u32,
-    name: Path,
-) -> (Tried<Status>, Path)
-    ensures did { DidByMachine M.Serves (look_inside pid dir_ino name) machine.old machine.new result.0 }
+pub fn look_inside<M: Machine>(machine: &mut M, actor: &Actor, name: Path) -> (Tried<Status>, Path)
+    requires { actor.now ≡ actor_in actor.now.cred actor.now.start }
+    ensures did { DidByMachine M.Serves (look_inside actor.now.cred actor.now.start name) machine.old machine.new result.0 }
     ensures name { result.1 ≡ name }
 {
-    let (reply, name) = inside(machine, pid, dir_ino, Call::Lstat(name));
-    (shown(reply), name)
+    let call = Call::Lstat(name);
+    let seen = shown(inside(machine, actor, &call));
+    let Some(name) = name_looked_at(call) else {
+        unreachable!()
+    };
+    (seen, name)
 }
 
-/// What stat(2) shows of what is open.
-pub fn show_open<M: Machine>(machine: &mut M, file: OpenFile) -> Tried<Status>
-    ensures { DidByMachine M.Serves (show_open file.pid file.fd) machine.old machine.new result }
+/// The inode of what was shown, if something was.
+pub fn number_shown(seen: Tried<Status>) -> Option<u32>
+    ensures { result ≡ number_shown seen }
 {
-    shown(obtain_once(machine, file.pid, Call::Fstat(file.fd)))
-}
-
-// What is open is this object, and loses its bytes, if it is to.
-fn confirm_shown<M: Machine>(machine: &mut M, file: OpenFile, ino: u32, is_cut: bool) -> Tried<()>
-    ensures { DidByMachine M.Serves (confirm_shown file.pid file.fd ino is_cut) machine.old machine.new result }
-{
-    let status = show_open(machine, file)?;
-    only_inode(ino, status)?;
-    if !is_cut {
-        return Ok(());
+    match seen {
+        Ok(status) => Some(status.ino),
+        Err(_unseen) => None,
     }
-    done(obtain_once(machine, file.pid, Call::Ftruncate(file.fd, 0)))
-}
-
-/// What is open is confirmed as by `confirm_shown`; where it is another object, or isn't shown, it is closed.
-pub fn confirm_open<M: Machine>(
-    machine: &mut M,
-    file: OpenFile,
-    ino: u32,
-    is_cut: bool,
-) -> Tried<()>
-    ensures { DidByMachine M.Serves (confirm_open file.pid file.fd ino is_cut) machine.old machine.new result }
-{
-    let confirmed = confirm_shown(machine, file, ino, is_cut);
-    or_closed(machine, file, confirmed)
 }

@@ -194,7 +194,7 @@ Usage: inofs
        inofs check [--explain] IMAGE
        inofs info [--json] IMAGE
        inofs upgrade IMAGE
-       inofs fuse IMAGE [--denials FILE] [--own-rules]
+       inofs fuse IMAGE [--denials FILE] [--own-rules] [--commit SECONDS]
 
 For more information, try '--help'.
 ";

@@ -60,12 +60,17 @@ fn told_job(alloc: Global, job: &Job) -> Result<String, AllocError> {
             image,
             denials: Some(denials),
             own_rules,
-        } => format!(in alloc; "fuse {} {} {own_rules}", image.as_str(), denials.as_str()),
+            commit,
+        } => {
+            let (image, denials) = (image.as_str(), denials.as_str());
+            format!(in alloc; "fuse {image} {denials} {own_rules} {commit}")
+        }
         Job::Fuse {
             image,
             denials: None,
             own_rules,
-        } => format!(in alloc; "fuse {} {own_rules}", image.as_str()),
+            commit,
+        } => format!(in alloc; "fuse {} {own_rules} {commit}", image.as_str()),
     }
 }
 
@@ -141,7 +146,7 @@ static MAKING: [(&str, &str); 13] = [
 ];
 
 // Lines that ask for what is done to an image that is there.
-static USING: [(&str, &str); 14] = [
+static USING: [(&str, &str); 18] = [
     ("inofs run a.img", "run a.img"),
     ("inofs run a.img s", "run a.img s"),
     ("inofs run -- --help s", "run --help s"),
@@ -152,12 +157,19 @@ static USING: [(&str, &str); 14] = [
     ("inofs info a.img --json", "info a.img true"),
     ("inofs info --json -- --json", "info --json true"),
     ("inofs upgrade a.img", "upgrade a.img"),
-    ("inofs fuse a.img", "fuse a.img false"),
-    ("inofs fuse a.img --own-rules", "fuse a.img true"),
-    ("inofs fuse --denials d a.img", "fuse a.img d false"),
+    ("inofs fuse a.img", "fuse a.img false 0"),
+    ("inofs fuse a.img --own-rules", "fuse a.img true 0"),
+    ("inofs fuse --denials d a.img", "fuse a.img d false 0"),
     (
         "inofs fuse a.img --denials=d --own-rules",
-        "fuse a.img d true",
+        "fuse a.img d true 0",
+    ),
+    ("inofs fuse a.img --commit 0", "fuse a.img false 0"),
+    ("inofs fuse --commit=+05 a.img", "fuse a.img false 5"),
+    ("inofs fuse a.img --commit 86400", "fuse a.img false 86400"),
+    (
+        "inofs fuse --own-rules --commit 1 a.img --denials d",
+        "fuse a.img d true 1",
     ),
 ];
 
@@ -219,7 +231,7 @@ static BAD_LOOKS: [&str; 12] = [
 ];
 
 // All else.
-static BAD_OTHERS: [&str; 16] = [
+static BAD_OTHERS: [&str; 23] = [
     "inofs upgrade",
     "inofs upgrade a.img b.img",
     "inofs fuse",
@@ -230,6 +242,13 @@ static BAD_OTHERS: [&str; 16] = [
     "inofs fuse a.img --own-rules --own-rules",
     "inofs fuse a.img --own-rules=true",
     "inofs fuse a.img --own_rules",
+    "inofs fuse a.img --commit",
+    "inofs fuse a.img --commit 86401",
+    "inofs fuse a.img --commit -1",
+    "inofs fuse a.img --commit 5s",
+    "inofs fuse a.img --commit=",
+    "inofs fuse a.img --commit 99999999999999999999",
+    "inofs fuse a.img --commit 5 --commit 5",
     "inofs fsck a.img",
     "inofs help",
     "inofs a.img",
@@ -304,7 +323,7 @@ Usage: inofs
        inofs check [--explain] IMAGE
        inofs info [--json] IMAGE
        inofs upgrade IMAGE
-       inofs fuse IMAGE [--denials FILE] [--own-rules]
+       inofs fuse IMAGE [--denials FILE] [--own-rules] [--commit SECONDS]
 
 Commands:
   mkfs     Make an image of the second layout with an empty file system
@@ -334,9 +353,10 @@ Arguments:
   <IMAGE>  The image
 
 Options:
-      --denials <FILE>  The file to which denials are written, a line each
-      --own-rules       Let the kernel judge no ACLs
-  -h, --help            Print help
+      --denials <FILE>    The file to which denials are written, a line each
+      --own-rules         Let the kernel judge no ACLs
+      --commit <SECONDS>  Keep all so often, 1 to 86400; with 0, or without it, only fsync and the unmount do
+  -h, --help              Print help
 ";
 
 const FORMAT_HELP: &str = "Make an image of the third layout with an empty file system
@@ -366,7 +386,7 @@ Options:
 ";
 
 // Lines that ask for no job, and what is printed.
-static TEXTS: [(&str, &str); 8] = [
+static TEXTS: [(&str, &str); 9] = [
     ("inofs --help", HELP),
     ("inofs mkfs --help", MKFS_HELP),
     ("inofs format --help", FORMAT_HELP),
@@ -375,6 +395,11 @@ static TEXTS: [(&str, &str); 8] = [
     (
         "inofs mkfs a.img --sectors 1023 --inodes 16",
         "error: invalid value '1023' for '--sectors <N>': 1023 is not in 1024..=65536\n\n\
+         For more information, try '--help'.\n",
+    ),
+    (
+        "inofs fuse a.img --commit 86401",
+        "error: invalid value '86401' for '--commit <SECONDS>': 86401 is not in 0..=86400\n\n\
          For more information, try '--help'.\n",
     ),
     (

@@ -3,8 +3,9 @@
 --     acls_few, directory_taken        an inode was taken for it
 --     mkdir_by_path, directory_name_asked, is_new_name, directory_changes        mkdir
 --     directory_may_touch, directory_was_made        and its end
+use Rattle.call_parts.specs.BothTables.{Tables}
 use Rattle.std.specs.Prelude.{false}
-use Rattle.call_parts.specs.Callers.{Who}
+use Rattle.call_parts.specs.Callers.{Who, ByCaller, told_by, made_reply, ByProcess, ByActor}
 use Rattle.call_parts.proofs.Starts.{may_make}
 use Rattle.std.specs.Prelude.{◌≡◌, ℕ, ◌+◌, ◌-◌, ◌/◌, ◌%◌, ◌^◌, ◌<◌, ◌≤◌, ◌==◌, nat_eq, nat_le, ◌&&◌, cond, Bool, true, false, List, [], ◌∷◌, Option, None, IsTrue, Ok}
 use Rattle.std.proofs.Common.{refl, sym, ap, arith, ◌∙◌}
@@ -26,6 +27,7 @@ use Rattle.bit_alloc.specs.Bitmaps.{IsFreeNumber}
 use Rattle.bit_alloc.specs.Inodes.{KeepsFields, Touches}
 use Rattle.inode_table.specs.Acls.{HasAcl, HasDefaultAcl, with_acl_bits, acls_take}
 use Rattle.fs_model.specs.declared.call.Call.TheVariants.{Mkdir}
+use Rattle.fs_model.specs.declared.reply.Reply.{Reply}
 use Rattle.fs_model.specs.declared.reply.Reply.TheVariants.{Done}
 use Rattle.fs_model.specs.declared.touch.Touch.TheVariants.{Modified, Born}
 use Rattle.fs_model.specs.declared.walk.Form.TheVariants.{Parent}
@@ -33,7 +35,7 @@ use Rattle.fs_model.specs.declared.walk.Found.{Found}
 use Rattle.fs_model.specs.Births.{the_node, born_directory}
 use Rattle.fs_model.specs.Demands.{Demand, first_of}
 use Rattle.fs_model.specs.NameCalls.{mkdir_row, mkdir_demands, mkdir_effect}
-use Rattle.fs_model.specs.Processes.{Process, ProcessTable}
+use Rattle.fs_model.specs.Processes.{Process}
 use Rattle.fs_model.specs.Rows.{row_of}
 use Rattle.fs_model.specs.Scenes.{must_be_new, check_of_mode}
 use Rattle.fs_model.specs.States.{State}
@@ -104,8 +106,14 @@ mkdir_by_path {who} path mode checks are = record {
   row = mkdir_is path mode;
   are_checked = are ∙ ap checked (sym (or_else-none (check_of_mode mode)));
   asks = refl;
+  opens = refl;
   may = may_make who _ refl refl;
 }
+
+-- who makes a directory is told so
+pub told_directory : (who : Who) (path : List ℕ) (mode n : ℕ) → told_by who (Mkdir path mode) n Done ≡ made_reply who n Done
+told_directory (ByProcess pid) path mode n = refl
+told_directory (ByActor actor) path mode n = refl
 
 -- asked of the name
 abbrev pub directory_name_asked : Found → List Demand
@@ -117,11 +125,11 @@ is_new_name f is =
     let met = (met_ok {A = Unit {0}} (must_be_new f) tt tt is).0 in
     (or_else-none (must_be_new f) ∙ met, is_new_if f met)
 
-module _ {p : Geometry} {map : SectorMap} {processes : ProcessTable} {s : State} (at : IsStateOf p map processes s) (q : Process) (f : Found) {who : Who} {path : List ℕ}
+module _ {p : Geometry} {map : SectorMap} {tables : Tables} {s : State} (at : IsStateOf p map tables s) (q : Process) (f : Found) {who : Who} {path : List ℕ}
     (has : HasFound s who q false Parent path f) (bytes : IsBytes path) (is : refused_or {A = Unit {0}} (must_be_new f) (Ok tt) ≡ Ok tt) where
   pub directory_changes : (mode : ℕ) (new : SectorMap) (n : ℕ) → first_of (make_asked p map q.cred s.tree f.dir_ino (f.step - 1)) ≡ None
       → MakesNode p f.dir_ino f.name n (born_directory q.cred q.umask mode (the_node s.tree f.dir_ino)) map new
-      → IsChange p new processes s q (mkdir_demands (scene_at s q f)) (mkdir_effect mode (scene_at s q f)) Done ((f.dir_ino, Modified) ∷ (n, Born) ∷ [])
+      → (c : IsChange p new tables s q (mkdir_demands (scene_at s q f)) (mkdir_effect mode (scene_at s q f)) Done ((f.dir_ino, Modified) ∷ (n, Born) ∷ [])) × (c.number ≡ n)
   directory_changes mode new n allows made =
       let x = is_new_name f is in
       let fits = parent_fits at q f has bytes x.1 in
@@ -130,14 +138,14 @@ module _ {p : Geometry} {map : SectorMap} {processes : ProcessTable} {s : State}
       new made (mkdir_demands (scene_at s q f)) (space_met at q f (must_be_new f ∷ []) x.0 allows) allows
 
 -- the directory was made
-module _ {p : Geometry} {old mid last : TxnState} {processes : ProcessTable} {who : Who} {checks : Checked} {path : List ℕ} {q : Process} {f : Found} {n : ℕ} (mode : ℕ)
-    (are : checks ≡ checked (check_of_mode mode)) (same : IsUnchanged old mid) (w : HasWalked p mid processes who checks false Parent path q f)
+module _ {p : Geometry} {old mid last : TxnState} {tables : Tables} {who : Who} {checks : Checked} {path : List ℕ} {q : Process} {f : Found} {n : ℕ} (mode : ℕ)
+    (are : checks ≡ checked (check_of_mode mode)) (same : IsUnchanged old mid) (w : HasWalked p mid tables who checks false Parent path q f)
     (is : refused_or {A = Unit {0}} (must_be_new f) (Ok tt) ≡ Ok tt)
     (made : Makes p q.cred f (λ (t : Tree). born_directory q.cred q.umask mode (the_node t f.dir_ino)) mid last (Ok n)) where
   pub directory_may_touch : MayMoveTimes p ((f.dir_ino, Modified) ∷ (n, Born) ∷ []) last
   directory_may_touch = made_may_touch directory_name_asked (mkdir_by_path path mode checks are) same w (is_new_name f is).1 last n (λ (t : Tree). born_directory q.cred q.umask mode (the_node t f.dir_ino)) made.each
       (λ s has at. directory_changes at q f has w.bytes is mode last.sectors n) made.store 7 (omega arith) made.taken
 
-  pub directory_was_made : {time : ℕ} {new : TxnState} → MovesTimes p time ((f.dir_ino, Modified) ∷ (n, Born) ∷ []) last new → Performs p time who (Mkdir path mode) old new processes processes (Ok Done)
-  directory_was_made moved = made_done directory_name_asked (mkdir_by_path path mode checks are) same w (is_new_name f is).1 last n (λ (t : Tree). born_directory q.cred q.umask mode (the_node t f.dir_ino)) made.each
-      (λ s has at. directory_changes at q f has w.bytes is mode last.sectors n) made.store moved
+  pub directory_was_made : {time : ℕ} {new : TxnState} (answer : Reply) → told_by who (Mkdir path mode) n Done ≡ answer → MovesTimes p time ((f.dir_ino, Modified) ∷ (n, Born) ∷ []) last new → Performs p time (ByCaller who (Mkdir path mode)) old new tables tables (Ok answer)
+  directory_was_made answer tells moved = made_done directory_name_asked (mkdir_by_path path mode checks are) same w (is_new_name f is).1 last n (λ (t : Tree). born_directory q.cred q.umask mode (the_node t f.dir_ino)) made.each
+      (λ s has at. directory_changes at q f has w.bytes is mode last.sectors n) answer tells made.store moved

@@ -4,8 +4,9 @@
 --     target_size        its target has a size that a link may have
 --     symlink_by_path, is_target, is_link_name, link_changes        symlink
 --     link_may_touch, link_was_made        and its end
+use Rattle.call_parts.specs.BothTables.{Tables}
 use Rattle.std.specs.Prelude.{false}
-use Rattle.call_parts.specs.Callers.{Who}
+use Rattle.call_parts.specs.Callers.{Who, ByCaller, told_by, made_reply, ByProcess, ByActor}
 use Rattle.call_parts.proofs.Starts.{may_make}
 use Rattle.std.specs.Prelude.{◌≡◌, ◌⊎◌, ℕ, ◌-◌, ◌<◌, ◌/◌, ◌%◌, ◌==◌, nat_lt, if◌then◌else◌, List, [], ◌∷◌, length, None, IsTrue, Ok}
 use Rattle.std.proofs.Common.{refl, sym, subst, arith, inl, inr, ◌∙◌}
@@ -25,6 +26,7 @@ use Rattle.bit_alloc.specs.Inodes.{Touches}
 use Rattle.block_map.specs.Contents.{AllowsSize}
 use Rattle.block_map.specs.Links.{IsNewLink, HasNoAcls}
 use Rattle.fs_model.specs.declared.call.Call.TheVariants.{Symlink}
+use Rattle.fs_model.specs.declared.reply.Reply.{Reply}
 use Rattle.fs_model.specs.declared.reply.Reply.TheVariants.{Done}
 use Rattle.fs_model.specs.declared.touch.Touch.TheVariants.{Modified, Born}
 use Rattle.fs_model.specs.declared.walk.Form.TheVariants.{Parent}
@@ -34,7 +36,7 @@ use Rattle.fs_model.specs.Demands.{refuse, first_of}
 use Rattle.fs_model.specs.Limits.{target_limit}
 use Rattle.fs_model.specs.NameCalls.{symlink_row, symlink_arguments, symlink_demands, symlink_effect}
 use Rattle.fs_model.specs.Parts.{is_empty}
-use Rattle.fs_model.specs.Processes.{Process, ProcessTable}
+use Rattle.fs_model.specs.Processes.{Process}
 use Rattle.fs_model.specs.Rows.{row_of}
 use Rattle.fs_model.specs.Scenes.{must_be_new}
 use Rattle.fs_model.specs.States.{State}
@@ -90,7 +92,12 @@ symlink_is target path = refl
 -- the target of symlink is checked
 pub symlink_by_path : {who : Who} → (target path : List ℕ) (checks : Checked) → checks ≡ checked (first_of (symlink_arguments target))
     → WalksPath who (Symlink target path) checks false Parent path symlink_demands (symlink_effect target)
-symlink_by_path {who} target path checks are = record { arguments = symlink_arguments target; row = symlink_is target path; are_checked = are; asks = refl; may = may_make who _ refl refl }
+symlink_by_path {who} target path checks are = record { arguments = symlink_arguments target; row = symlink_is target path; are_checked = are; asks = refl; opens = refl; may = may_make who _ refl refl }
+
+-- who makes a link is told so
+pub told_link : (who : Who) (target path : List ℕ) (n : ℕ) → told_by who (Symlink target path) n Done ≡ made_reply who n Done
+told_link (ByProcess pid) target path n = refl
+told_link (ByActor actor) target path n = refl
 
 -- and is one
 pub is_target : (target : List ℕ) (checks : Checked) → checks ≡ checked (first_of (symlink_arguments target)) → checks ≡ Ok tt → IsBytes target → IsTarget target
@@ -109,11 +116,11 @@ is_link_name f is =
     let met = (met_ok {A = Unit {0}} (first_of (link_name_asked f)) tt tt is).0 in
     (met, is_new_if f (first_met (must_be_new f) (first_of (refuse ENOENT f.slash ∷ [])) met))
 
-module _ {p : Geometry} {map : SectorMap} {processes : ProcessTable} {s : State} (at : IsStateOf p map processes s) (q : Process) (f : Found) {who : Who} {path : List ℕ}
+module _ {p : Geometry} {map : SectorMap} {tables : Tables} {s : State} (at : IsStateOf p map tables s) (q : Process) (f : Found) {who : Who} {path : List ℕ}
     (has : HasFound s who q false Parent path f) (bytes : IsBytes path) (is : refused_or {A = Unit {0}} (first_of (link_name_asked f)) (Ok tt) ≡ Ok tt) where
   pub link_changes : (target : List ℕ) → IsTarget target → (new : SectorMap) (n : ℕ) → first_of (make_asked p map q.cred s.tree f.dir_ino (f.step - 1)) ≡ None
       → MakesNode p f.dir_ino f.name n (born_link q.cred target (the_node s.tree f.dir_ino)) map new
-      → IsChange p new processes s q (symlink_demands (scene_at s q f)) (symlink_effect target (scene_at s q f)) Done ((f.dir_ino, Modified) ∷ (n, Born) ∷ [])
+      → (c : IsChange p new tables s q (symlink_demands (scene_at s q f)) (symlink_effect target (scene_at s q f)) Done ((f.dir_ino, Modified) ∷ (n, Born) ∷ [])) × (c.number ≡ n)
   link_changes target valid new n allows made =
       let x = is_link_name f is in
       let fits = parent_fits at q f has bytes x.1 in
@@ -122,14 +129,14 @@ module _ {p : Geometry} {map : SectorMap} {processes : ProcessTable} {s : State}
       new made (symlink_demands (scene_at s q f)) (space_met at q f (link_name_asked f) x.0 allows) allows
 
 -- the link was made
-module _ {p : Geometry} {old mid last : TxnState} {processes : ProcessTable} {who : Who} {checks : Checked} {path : List ℕ} {q : Process} {f : Found} {n : ℕ} (target : List ℕ)
-    (bytes : IsBytes target) (are : checks ≡ checked (first_of (symlink_arguments target))) (same : IsUnchanged old mid) (w : HasWalked p mid processes who checks false Parent path q f)
+module _ {p : Geometry} {old mid last : TxnState} {tables : Tables} {who : Who} {checks : Checked} {path : List ℕ} {q : Process} {f : Found} {n : ℕ} (target : List ℕ)
+    (bytes : IsBytes target) (are : checks ≡ checked (first_of (symlink_arguments target))) (same : IsUnchanged old mid) (w : HasWalked p mid tables who checks false Parent path q f)
     (is : refused_or {A = Unit {0}} (first_of (link_name_asked f)) (Ok tt) ≡ Ok tt)
     (made : Makes p q.cred f (λ (t : Tree). born_link q.cred target (the_node t f.dir_ino)) mid last (Ok n)) where
   pub link_may_touch : MayMoveTimes p ((f.dir_ino, Modified) ∷ (n, Born) ∷ []) last
   link_may_touch = made_may_touch link_name_asked (symlink_by_path target path checks are) same w (is_link_name f is).1 last n (λ (t : Tree). born_link q.cred target (the_node t f.dir_ino)) made.each
       (λ s has at. link_changes at q f has w.bytes is target (is_target target checks are w.fine bytes) last.sectors n) made.store 7 (omega arith) made.taken
 
-  pub link_was_made : {time : ℕ} {new : TxnState} → MovesTimes p time ((f.dir_ino, Modified) ∷ (n, Born) ∷ []) last new → Performs p time who (Symlink target path) old new processes processes (Ok Done)
-  link_was_made moved = made_done link_name_asked (symlink_by_path target path checks are) same w (is_link_name f is).1 last n (λ (t : Tree). born_link q.cred target (the_node t f.dir_ino)) made.each
-      (λ s has at. link_changes at q f has w.bytes is target (is_target target checks are w.fine bytes) last.sectors n) made.store moved
+  pub link_was_made : {time : ℕ} {new : TxnState} (answer : Reply) → told_by who (Symlink target path) n Done ≡ answer → MovesTimes p time ((f.dir_ino, Modified) ∷ (n, Born) ∷ []) last new → Performs p time (ByCaller who (Symlink target path)) old new tables tables (Ok answer)
+  link_was_made answer tells moved = made_done link_name_asked (symlink_by_path target path checks are) same w (is_link_name f is).1 last n (λ (t : Tree). born_link q.cred target (the_node t f.dir_ino)) made.each
+      (λ s has at. link_changes at q f has w.bytes is target (is_target target checks are w.fine bytes) last.sectors n) answer tells made.store moved

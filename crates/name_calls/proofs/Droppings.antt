@@ -1,6 +1,7 @@
 -- A name that goes, and what a node that loses it leaves of the disk.
 --     removable        a call may remove the name
 --     lost_sound, lost_touches        it is sound, and one inode was touched
+use Rattle.call_parts.specs.BothTables.{Tables}
 use Rattle.std.specs.Prelude.{◌≡◌, ℕ, ◌-◌, ◌<◌, Bool, true, false}
 use Rattle.std.proofs.Common.{refl, arith}
 use Rattle.fs_layout.specs.declared.geometry.Geometry.{Geometry}
@@ -8,12 +9,11 @@ use Rattle.fs_layout.specs.Images.{inode_at}
 use Rattle.sector_txn.specs.Sectors.{TxnState}
 use Rattle.bit_alloc.specs.Inodes.{IsSound, Touches}
 use Rattle.fs_model.specs.declared.walk.Found.{Found}
-use Rattle.fs_model.specs.Processes.{ProcessTable}
 use Rattle.call_parts.specs.NewNodes.{HasName}
 use Rattle.call_parts.specs.Performing.{MayPerform}
 use Rattle.name_calls.specs.Dropping.{MayRemove, LosesName, stays_with}
 
-pub removable : {p : Geometry} {txn : TxnState} {processes : ProcessTable} (f : Found) → MayPerform p txn processes → f.dir_ino < p.inodes → HasName p txn.sectors f.dir_ino f.name → MayRemove p f txn
+pub removable : {p : Geometry} {txn : TxnState} {tables : Tables} (f : Found) → MayPerform p txn tables → f.dir_ino < p.inodes → HasName p txn.sectors f.dir_ino f.name → MayRemove p f txn
 removable f ready below named = let spare = ready.spare in record { ready = record { sound = ready.sound; spare = omega (arith, spare) }; below = below; named = named }
 
 module _ {p : Geometry} {n : ℕ} {opened : Bool} {old new : TxnState} (loses : LosesName p n opened old new) where

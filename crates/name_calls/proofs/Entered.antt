@@ -50,7 +50,7 @@ unfolding row_of
 chdir_is path = refl
 
 pub chdir_by_path : {pid : ℕ} → (path : List ℕ) → WalksPath (ByProcess pid) (Chdir path) (Ok tt) false Follow path chdir_demands chdir_effect
-chdir_by_path path = record { arguments = []; row = chdir_is path; are_checked = refl; asks = refl; may = tt }
+chdir_by_path path = record { arguments = []; row = chdir_is path; are_checked = refl; asks = refl; opens = refl; may = tt }
 
 -- ---- what is asked
 

@@ -2,7 +2,6 @@ pub mod BornDirectories
 pub mod BornLinks
 pub mod Droppings
 pub mod Entered
-pub mod Enterings
 pub mod Inherited
 pub mod LinkAsked
 pub mod Linkings

@@ -2,6 +2,7 @@
 --     place_denied, place_many, place_full, place_met        all of the directory
 --     node_found, kind_says, source_absent, source_other, source_all_met, source_inode        what is to get the name
 --     source_refuses, name_refuses, place_refuses, link_asked_met        the whole
+use Rattle.call_parts.specs.BothTables.{Tables}
 use Rattle.std.specs.Prelude.{◌≡◌, ℕ, ◌-◌, nat_lt, nat_le, Bool, not, ◌&&◌, List, [], ◌∷◌, ◌++◌, length, Option, None, Some, is_some, IsFalse, Ok}
 use Rattle.std.proofs.Common.{sym, ap, ◌∙◌}
 use Rattle.fs_cred.specs.declared.errno.Errno.TheVariants.{EPERM, ENOTDIR, ENOSPC}
@@ -18,9 +19,9 @@ use Rattle.fs_model.specs.Demands.{Demand, refuse, first_of, permission_on, writ
 use Rattle.fs_model.specs.Limits.{least_free}
 use Rattle.fs_model.specs.NameCalls.{link_demands, link_count_demand}
 use Rattle.fs_model.specs.Nodes.{Node, is_directory, names_of_body}
-use Rattle.fs_model.specs.Processes.{Process, ProcessTable}
+use Rattle.fs_model.specs.Processes.{Process}
 use Rattle.fs_model.specs.Rules.{is_directory_kind}
-use Rattle.fs_model.specs.Scenes.{is_found, is_special, found_ino, must_be_there}
+use Rattle.fs_model.specs.Scenes.{is_found, found_ino, must_be_there}
 use Rattle.fs_model.specs.States.{State}
 use Rattle.fs_model.specs.Trees.{Room, Tree, names_of}
 use Rattle.fs_model.proofs.StepsDemands.{first_met, then_met, unrefused, and_false}
@@ -120,7 +121,7 @@ module _ (t : Tree) (f : Found) where
 
 -- ---- the whole
 
-module _ {p : Geometry} {map : SectorMap} {processes : ProcessTable} {q : Process} {f g : Found} {s : State} (i : FindsBoth p map processes q f g s) where
+module _ {p : Geometry} {map : SectorMap} {tables : Tables} {q : Process} {f g : Found} {s : State} (i : FindsBoth p map tables q f g s) where
   abbrev source : List Demand
   source = source_asked s.tree f
 

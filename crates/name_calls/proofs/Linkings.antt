@@ -5,6 +5,7 @@
 --     link_may, few_names        the name may be given
 --     target_below, linked_below, dir_same, dir_room, link_holds        the count of names, the directory, and both
 --     link_changed        the name was given
+use Rattle.call_parts.specs.BothTables.{Tables, users_of}
 use Rattle.std.specs.Prelude.{true}
 use Rattle.call_parts.specs.Callers.{Who}
 use Rattle.call_parts.proofs.Starts.{may_make}
@@ -32,7 +33,7 @@ use Rattle.fs_model.specs.Demands.{Demand, refuse, first_of, permission_on, writ
 use Rattle.fs_model.specs.Limits.{least_free}
 use Rattle.fs_model.specs.NameCalls.{link_demands, link_count_demand, link_effect}
 use Rattle.fs_model.specs.Nodes.{Node, is_directory, names_of_body}
-use Rattle.fs_model.specs.Processes.{Process, ProcessTable, is_open}
+use Rattle.fs_model.specs.Processes.{Process, is_open}
 use Rattle.fs_model.specs.Rows.{row_of}
 use Rattle.fs_model.specs.Scenes.{found_ino}
 use Rattle.fs_model.specs.Stands.{HoldsAll, placed}
@@ -69,7 +70,7 @@ use Rattle.name_calls.proofs.Takings.{field_is}
 
 pub link_by_two : {who : Who} → (old new : List ℕ) → WalksBoth who (Link old new) true old new link_demands link_effect
 unfolding row_of
-link_by_two {who} old new = record { row = refl; asks = refl; may = may_make who _ refl refl }
+link_by_two {who} old new = record { row = refl; asks = refl; opens = refl; may = may_make who _ refl refl }
 
 -- ---- all is met
 
@@ -118,7 +119,7 @@ module _ {p : Geometry} {map : SectorMap} {q : Process} {f g : Found} (s : State
         directory = sym (ap (λ (x : ℕ × Inode × Inode). x.2) both.1);
       }
 
-module _ {p : Geometry} {map : SectorMap} {processes : ProcessTable} {q : Process} {f g : Found} {s : State} (i : FindsBoth p map processes q f g s) where
+module _ {p : Geometry} {map : SectorMap} {tables : Tables} {q : Process} {f g : Found} {s : State} (i : FindsBoth p map tables q f g s) where
   -- the name is new in a directory
   pub name_at : first_of (link_name_asked g) ≡ None → IsNameAt s.room s.tree g.dir_ino g.name None
   name_at met = (second_walked i).new (is_link_name g (ap (λ (o : Demand). refused_or {A = Unit {0}} o (Ok tt)) met)).1
@@ -173,7 +174,7 @@ module _ {p : Geometry} {map : SectorMap} {processes : ProcessTable} {q : Proces
 
 -- ---- the name is given
 
-module _ {p : Geometry} (old : TxnState) {processes : ProcessTable} {s : State} (at : IsStateOf p old.sectors processes s) {dir_ino : ℕ} {name : List ℕ} {n : ℕ}
+module _ {p : Geometry} (old : TxnState) {tables : Tables} {s : State} (at : IsStateOf p old.sectors tables s) {dir_ino : ℕ} {name : List ℕ} {n : ℕ}
     (may : MayLink p old.sectors s.tree dir_ino name n) where
   abbrev directory : Node
   directory = may.directory.node
@@ -268,9 +269,9 @@ module _ {p : Geometry} (old : TxnState) {processes : ProcessTable} {s : State} 
         }
 
     module _ (new : SectorMap) (named : NamesInode p dir_ino name n mid.sectors new) where
-      pub link_holds : HoldsAll p new (placed (swept (changed s.tree (AddName dir_ino name n)) processes))
+      pub link_holds : HoldsAll p new (placed (swept (changed s.tree (AddName dir_ino name n)) (users_of tables)))
       link_holds =
-          add_held s at.is_state at.up processes (λ k is. subst (λ (d : ProcessTable). IsTrue (is_open d k)) at.same_processes is) p old.sectors at.holds at.same_room
+          add_held s at.is_state at.up (users_of tables) (λ k is. subst (λ (d : Tables). IsTrue (is_open (users_of d) k)) at.same_tables is) p old.sectors at.holds at.same_room
           mid.sectors new dir_ino directory name n may.target gives counts.touches.inode counts.used (counted (parent (changed s.tree (AddName dir_ino name n)) n))
           named.change named.used
           (names_held mid.sectors new (inode_at p mid.sectors dir_ino) (inode_at p new dir_ino) is_dir dir_held (with_entry name_cmp (names_of_body directory.body) name n)
@@ -278,24 +279,24 @@ module _ {p : Geometry} (old : TxnState) {processes : ProcessTable} {s : State} 
 
 -- ---- the step
 
-link_changes : {p : Geometry} {new : SectorMap} {processes : ProcessTable} (s : State) (q : Process) (f g : Found) (n : ℕ) → found_ino f ≡ n
-    → first_of (link_demands (scene_with s q f g)) ≡ None → HoldsAll p new (placed (swept (changed s.tree (AddName g.dir_ino g.name n)) processes))
-    → IsChange p new processes s q (link_demands (scene_with s q f g)) (λ k. link_effect (scene_with s q f g)) Done ((g.dir_ino, Modified) ∷ (n, Changed) ∷ [])
-link_changes {p} {new} {processes} s q f g n is met holds = record {
+link_changes : {p : Geometry} {new : SectorMap} {tables : Tables} (s : State) (q : Process) (f g : Found) (n : ℕ) → found_ino f ≡ n
+    → first_of (link_demands (scene_with s q f g)) ≡ None → HoldsAll p new (placed (swept (changed s.tree (AddName g.dir_ino g.name n)) (users_of tables)))
+    → IsChange p new tables s q (link_demands (scene_with s q f g)) (λ k. link_effect (scene_with s q f g)) Done ((g.dir_ino, Modified) ∷ (n, Changed) ∷ [])
+link_changes {p} {new} {tables} s q f g n is met holds = record {
   met = met;
   number = 0;
   change = AddName g.dir_ino g.name (found_ino f);
   is = refl;
   new_number = tt;
   times = ap (λ (k : ℕ). touches_of s.tree (AddName g.dir_ino g.name k)) is;
-  holds = subst (λ (k : ℕ). HoldsAll p new (placed (swept (changed s.tree (AddName g.dir_ino g.name k)) processes))) (sym is) holds;
+  holds = subst (λ (k : ℕ). HoldsAll p new (placed (swept (changed s.tree (AddName g.dir_ino g.name k)) (users_of tables)))) (sym is) holds;
 }
 
 -- since before all was asked
-pub link_changed : {p : Geometry} {mid last : TxnState} {new : SectorMap} {processes : ProcessTable} {q : Process} {f g : Found} {s : State} {n : ℕ} {v d : Inode} → IsUnchanged mid last
-    → HoldsChange p processes (MayLinkAt p last.sectors g n) (AddName g.dir_ino g.name n) last.sectors new → FindsBoth p mid.sectors processes q f g s
+pub link_changed : {p : Geometry} {mid last : TxnState} {new : SectorMap} {tables : Tables} {q : Process} {f g : Found} {s : State} {n : ℕ} {v d : Inode} → IsUnchanged mid last
+    → HoldsChange p tables (MayLinkAt p last.sectors g n) (AddName g.dir_ino g.name n) last.sectors new → FindsBoth p mid.sectors tables q f g s
     → IsLinkable p mid.sectors s q f g n v d
-    → IsChange p new processes s q (link_demands (scene_with s q f g)) (λ k. link_effect (scene_with s q f g)) Done ((g.dir_ino, Modified) ∷ (n, Changed) ∷ [])
-link_changed {p} {mid} {last} {new} {processes} {q} {f} {g} {s} {n} same added finds told =
+    → IsChange p new tables s q (link_demands (scene_with s q f g)) (λ k. link_effect (scene_with s q f g)) Done ((g.dir_ino, Modified) ∷ (n, Changed) ∷ [])
+link_changed {p} {mid} {last} {new} {tables} {q} {f} {g} {s} {n} same added finds told =
     link_changes s q f g n told.inode.number told.met
     (added.holds s (state_kept same finds.is_state) (kept (λ (m : SectorMap). MayLinkAt p m g n s) same (link_may finds told)))

@@ -29,7 +29,8 @@ use Rattle.fs_model.specs.declared.walk.Found.{Found}
 use Rattle.fs_model.specs.TreeChanges.{MoveName, changed, changed_at, swept, lives_nameless}
 use Rattle.fs_model.specs.Limits.{root}
 use Rattle.fs_model.specs.Nodes.{Node, is_directory, names_of_body}
-use Rattle.fs_model.specs.Processes.{ProcessTable, is_open}
+use Rattle.fs_model.specs.Processes.{is_open}
+use Rattle.call_parts.specs.BothTables.{Tables, users_of, tables_in}
 use Rattle.fs_model.specs.Rules.{is_directory_kind}
 use Rattle.fs_model.specs.Stands.{HoldsAll, placed}
 use Rattle.fs_model.specs.States.{State}
@@ -116,7 +117,7 @@ few_renamed dir_ino to_dir_ino n (Some m) = omega arith
 
 -- ---- a name that may move
 
-module _ {p : Geometry} (old : TxnState) {processes : ProcessTable} {s : State} (at : IsStateOf p old.sectors processes s) {dir_ino : ℕ} {name : List ℕ} {n to_dir_ino : ℕ} {to_name : List ℕ}
+module _ {p : Geometry} (old : TxnState) {tables : Tables} {s : State} (at : IsStateOf p old.sectors tables s) {dir_ino : ℕ} {name : List ℕ} {n to_dir_ino : ℕ} {to_name : List ℕ}
     {o : Option ℕ} (may : MayMove p old.sectors s dir_ino name n to_dir_ino to_name o) where
   abbrev directory : Node
   directory = may.directory.node
@@ -124,10 +125,10 @@ module _ {p : Geometry} (old : TxnState) {processes : ProcessTable} {s : State} 
   abbrev to_directory : Node
   to_directory = may.to_directory.node
 
-  still : (k : ℕ) → IsTrue (is_open s.processes k) → IsTrue (is_open processes k)
-  still k is = subst (λ (d : ProcessTable). IsTrue (is_open d k)) at.same_processes is
+  still : (k : ℕ) → IsTrue (is_open (users_of (tables_in s)) k) → IsTrue (is_open (users_of tables) k)
+  still k is = subst (λ (d : Tables). IsTrue (is_open (users_of d) k)) at.same_tables is
 
-  moves : MovesName s.room s.tree s.processes dir_ino directory name n to_dir_ino to_directory to_name o
+  moves : MovesName s.room s.tree (users_of (tables_in s)) dir_ino directory name n to_dir_ino to_directory to_name o
   moves = record {
     stands = may.directory.is_there;
     is_dir = may.directory.directory;
@@ -157,16 +158,16 @@ module _ {p : Geometry} (old : TxnState) {processes : ProcessTable} {s : State} 
   is_target = record { node = target.node; names = names_of s.tree n; parent = parent s.tree n }
 
   abbrev between : Between s.room s.tree (renamed s.tree dir_ino directory (without name_cmp (names_of_body directory.body) name)) to_dir_ino to_name o
-  between = middle s at.is_state at.up processes still dir_ino directory name n to_dir_ino to_directory to_name o moves target.node target.at
+  between = middle s at.is_state at.up (users_of tables) still dir_ino directory name n to_dir_ino to_directory to_name o moves target.node target.at
 
   abbrev fewer : List (List ℕ × ℕ)
   fewer = without name_cmp (names_of_body directory.body) name
 
   abbrev then_begun : ℕ → Option Placed
-  then_begun = begun s at.is_state at.up processes still dir_ino directory name n to_dir_ino to_directory to_name o moves target.node target.at
+  then_begun = begun s at.is_state at.up (users_of tables) still dir_ino directory name n to_dir_ino to_directory to_name o moves target.node target.at
 
   abbrev then_arrived : ℕ → Option Placed
-  then_arrived = arrived s at.is_state at.up processes still dir_ino directory name n to_dir_ino to_directory to_name o moves target.node target.at
+  then_arrived = arrived s at.is_state at.up (users_of tables) still dir_ino directory name n to_dir_ino to_directory to_name o moves target.node target.at
 
   pub dir_below : dir_ino < p.inodes
   dir_below = node_below s p at.is_state at.same_room dir_ino directory may.directory.is_there
@@ -229,7 +230,7 @@ module _ {p : Geometry} (old : TxnState) {processes : ProcessTable} {s : State} 
 
     to_held : HoldsNode p.version mid (inode_at p mid to_dir_ino) (record { node = between.node; names = names_of s.tree to_dir_ino; parent = parent s.tree to_dir_ino })
     to_held =
-        middle_held s at.is_state at.up processes still dir_ino directory name n to_dir_ino to_directory to_name o moves target.node target.at p at.same_room
+        middle_held s at.is_state at.up (users_of tables) still dir_ino directory name n to_dir_ino to_directory to_name o moves target.node target.at p at.same_room
         old.sectors mid at.holds removes.change removes.used here
 
     to_names : HasNames p.version mid (inode_at p mid to_dir_ino) (names_of_body between.node.body)
@@ -261,12 +262,12 @@ module _ {p : Geometry} (old : TxnState) {processes : ProcessTable} {s : State} 
 
   entry_held : (new : SectorMap) → MovesEntry p dir_ino name n to_dir_ino to_name o old.sectors new → HoldsAll p new then_begun
   entry_held new (within one none c) =
-      begun_here s at.is_state at.up processes still dir_ino directory name n to_dir_ino to_directory to_name o moves target.node target.at p at.same_room
+      begun_here s at.is_state at.up (users_of tables) still dir_ino directory name n to_dir_ino to_directory to_name o moves target.node target.at p at.same_room
       old.sectors new at.holds one c.change c.used
       (names_held old.sectors new (inode_at p old.sectors dir_ino) (inode_at p new dir_ino) is_dir dir_held (with_entry name_cmp fewer to_name n) may.directory.directory
       c.kept c.acls (c.named (names_of_body directory.body) dir_names))
   entry_held new (across mid removes leads) =
-      begun_held s at.is_state at.up processes still dir_ino directory name n to_dir_ino to_directory to_name o moves target.node target.at p at.same_room
+      begun_held s at.is_state at.up (users_of tables) still dir_ino directory name n to_dir_ino to_directory to_name o moves target.node target.at p at.same_room
       old.sectors mid at.holds removes.change removes.used (here removes) new leads.change leads.used
       (names_held mid new (inode_at p mid to_dir_ino) (inode_at p new to_dir_ino) _ (to_held removes) (with_entry name_cmp (names_of_body between.node.body) to_name n)
       between.directory leads.kept leads.acls (leads.named (names_of_body between.node.body) (to_names removes)))
@@ -287,13 +288,13 @@ module _ {p : Geometry} (old : TxnState) {processes : ProcessTable} {s : State} 
     pub moved_same : inode_at p mid n ≡ inode_at p old.sectors n
     moved_same =
         entry_same entry n moved_below
-        (apart_from s at.is_state at.up processes still dir_ino directory name n to_dir_ino to_directory to_name o moves target.node target.at)
-        (apart_to s at.is_state at.up processes still dir_ino directory name n to_dir_ino to_directory to_name o moves target.node target.at)
+        (apart_from s at.is_state at.up (users_of tables) still dir_ino directory name n to_dir_ino to_directory to_name o moves target.node target.at)
+        (apart_to s at.is_state at.up (users_of tables) still dir_ino directory name n to_dir_ino to_directory to_name o moves target.node target.at)
 
     target_held : HoldsNode p.version mid (inode_at p mid n) is_target
     target_held =
         held_at p mid then_begun (entry_held mid entry) n moved_below is_target
-        (begun_n s at.is_state at.up processes still dir_ino directory name n to_dir_ino to_directory to_name o moves target.node target.at p at.same_room)
+        (begun_n s at.is_state at.up (users_of tables) still dir_ino directory name n to_dir_ino to_directory to_name o moves target.node target.at p at.same_room)
 
     target_kind : is_directory_kind (inode_at p mid n).kind ≡ is_directory target.node.body
     target_kind = ap (λ (v : Inode). is_directory_kind v.kind) moved_same ∙ held_kind (state_tree at) n target.node target.at
@@ -307,7 +308,7 @@ module _ {p : Geometry} (old : TxnState) {processes : ProcessTable} {s : State} 
           go : ParentFollows p n dir_ino to_dir_ino mid now → HoldsAll p now then_arrived
           go (goes ne kind gets) =
               let is : IsTrue (is_directory target.node.body) = sym target_kind ∙ ap is_directory_kind kind in
-              parent_held s at.is_state at.up processes still dir_ino directory name n to_dir_ino to_directory to_name o moves target.node target.at p at.same_room
+              parent_held s at.is_state at.up (users_of tables) still dir_ino directory name n to_dir_ino to_directory to_name o moves target.node target.at p at.same_room
               mid now (entry_held mid entry) is gets.change gets.used
               (moved_held mid now (inode_at p mid n) (inode_at p now n) is_target target_held to_dir_ino is gets.saved gets.bytes gets.acls)
           go (stays why same) =
@@ -316,7 +317,7 @@ module _ {p : Geometry} (old : TxnState) {processes : ProcessTable} {s : State} 
                 | inr one ↦ inr one
               ] in
               subst (λ (m : SectorMap). HoldsAll p m then_arrived) (sym same)
-              (no_parent_held s at.is_state at.up processes still dir_ino directory name n to_dir_ino to_directory to_name o moves target.node target.at p at.same_room
+              (no_parent_held s at.is_state at.up (users_of tables) still dir_ino directory name n to_dir_ino to_directory to_name o moves target.node target.at p at.same_room
               mid (entry_held mid entry) none)
 
       follow_same : (x : ℕ) → x < p.inodes → x ≢ n → inode_at p now x ≡ inode_at p mid x
@@ -327,9 +328,9 @@ module _ {p : Geometry} (old : TxnState) {processes : ProcessTable} {s : State} 
           go (stays why same) = ap (λ (m : SectorMap). inode_at p m x) same
 
       -- nothing was replaced
-      pub moved_none : o ≡ None → HoldsAll p now (placed (swept (changed s.tree (MoveName dir_ino name to_dir_ino to_name)) processes))
+      pub moved_none : o ≡ None → HoldsAll p now (placed (swept (changed s.tree (MoveName dir_ino name to_dir_ino to_name)) (users_of tables)))
       moved_none =
-          move_held s at.is_state at.up processes still dir_ino directory name n to_dir_ino to_directory to_name o moves target.node target.at p at.same_room now followed
+          move_held s at.is_state at.up (users_of tables) still dir_ino directory name n to_dir_ino to_directory to_name o moves target.node target.at p at.same_room now followed
 
       -- ---- what was replaced
 
@@ -353,8 +354,8 @@ module _ {p : Geometry} (old : TxnState) {processes : ProcessTable} {s : State} 
         replaced_same =
             follow_same m replaced_number.1 (may.other m led)
             ∙ entry_same entry m replaced_number.1
-            (m_not_from s at.is_state at.up processes still dir_ino directory name n to_dir_ino to_directory to_name o moves target.node target.at p at.same_room m led replaced.node replaced.at)
-            (m_not_to s at.is_state at.up processes still dir_ino directory name n to_dir_ino to_directory to_name o moves target.node target.at p at.same_room m led replaced.node replaced.at)
+            (m_not_from s at.is_state at.up (users_of tables) still dir_ino directory name n to_dir_ino to_directory to_name o moves target.node target.at p at.same_room m led replaced.node replaced.at)
+            (m_not_to s at.is_state at.up (users_of tables) still dir_ino directory name n to_dir_ino to_directory to_name o moves target.node target.at p at.same_room m led replaced.node replaced.at)
 
         was_held : HoldsNode p.version old.sectors (inode_at p old.sectors m) is_replaced
         was_held = held_node (state_tree at) m replaced.node replaced.at
@@ -364,7 +365,7 @@ module _ {p : Geometry} (old : TxnState) {processes : ProcessTable} {s : State} 
 
         some_name : 1 ≤ names_of s.tree m
         some_name =
-            let all = (moves_loses s.room s.tree s.processes dir_ino directory name n to_dir_ino to_directory to_name o at.is_state.tree moves).counts m in
+            let all = (moves_loses s.room s.tree (users_of (tables_in s)) dir_ino directory name n to_dir_ino to_directory to_name o at.is_state.tree moves).counts m in
             let one : lost_of o m ≡ 1 = ap (λ q. lost_of q m) led ∙ once_same m m refl in
             omega (arith, all, one)
 
@@ -381,32 +382,32 @@ module _ {p : Geometry} (old : TxnState) {processes : ProcessTable} {s : State} 
         replaced_held : HoldsNode p.version now (inode_at p now m) is_replaced
         replaced_held =
             held_at p now then_arrived followed m replaced_number.1 is_replaced
-            (arrived_m s at.is_state at.up processes still dir_ino directory name n to_dir_ino to_directory to_name o moves target.node target.at p at.same_room m led replaced.node replaced.at)
+            (arrived_m s at.is_state at.up (users_of tables) still dir_ino directory name n to_dir_ino to_directory to_name o moves target.node target.at p at.same_room m led replaced.node replaced.at)
 
   -- ---- and what was replaced loses its name
 
   module _ {mid : SectorMap} (entry : MovesEntry p dir_ino name n to_dir_ino to_name o old.sectors mid) {now : TxnState} (follows : ParentFollows p n dir_ino to_dir_ino mid now.sectors) {m : ℕ}
-      (led : o ≡ Some m) {new : TxnState} (opened : Bool) (is : opened ≡ is_open processes m) (loses : LosesName p m opened now new) where
+      (led : o ≡ Some m) {new : TxnState} (opened : Bool) (is : opened ≡ is_open (users_of tables) m) (loses : LosesName p m opened now new) where
     abbrev node : Node
     node = (replaced entry follows led).node
 
-    pub replaced_holds : HoldsAll p new.sectors (placed (swept (changed s.tree (MoveName dir_ino name to_dir_ino to_name)) processes))
-    replaced_holds = go (not (names_of s.tree m - 1 == 0) || lives_nameless processes m node.body) refl
+    pub replaced_holds : HoldsAll p new.sectors (placed (swept (changed s.tree (MoveName dir_ino name to_dir_ino to_name)) (users_of tables)))
+    replaced_holds = go (not (names_of s.tree m - 1 == 0) || lives_nameless (users_of tables) m node.body) refl
       where
-        go : (b : Bool) → (not (names_of s.tree m - 1 == 0) || lives_nameless processes m node.body) ≡ b
-            → HoldsAll p new.sectors (placed (swept (changed s.tree (MoveName dir_ino name to_dir_ino to_name)) processes))
+        go : (b : Bool) → (not (names_of s.tree m - 1 == 0) || lives_nameless (users_of tables) m node.body) ≡ b
+            → HoldsAll p new.sectors (placed (swept (changed s.tree (MoveName dir_ino name to_dir_ino to_name)) (users_of tables)))
         go true stay =
-            let counts = left_counts processes (replaced_held entry follows led) (one_name entry follows led) (other entry follows led) opened is loses stay in
-            move_take_held s at.is_state at.up processes still dir_ino directory name n to_dir_ino to_directory to_name o moves target.node target.at p at.same_room
+            let counts = left_counts (users_of tables) (replaced_held entry follows led) (one_name entry follows led) (other entry follows led) opened is loses stay in
+            move_take_held s at.is_state at.up (users_of tables) still dir_ino directory name n to_dir_ino to_directory to_name o moves target.node target.at p at.same_room
             m led node (replaced entry follows led).at now.sectors new.sectors (followed entry follows) counts.touches.inode stay counts.used
-            (left_held processes (replaced_held entry follows led) (one_name entry follows led) (other entry follows led) opened is loses stay
+            (left_held (users_of tables) (replaced_held entry follows led) (one_name entry follows led) (other entry follows led) opened is loses stay
             (parent (changed s.tree (MoveName dir_ino name to_dir_ino to_name)) m))
         go false gone =
-            let drops = left_drops processes (replaced_held entry follows led) (one_name entry follows led) (other entry follows led) opened is loses gone in
-            move_drop_held s at.is_state at.up processes still dir_ino directory name n to_dir_ino to_directory to_name o moves target.node target.at p at.same_room
+            let drops = left_drops (users_of tables) (replaced_held entry follows led) (one_name entry follows led) (other entry follows led) opened is loses gone in
+            move_drop_held s at.is_state at.up (users_of tables) still dir_ino directory name n to_dir_ino to_directory to_name o moves target.node target.at p at.same_room
             m led node (replaced entry follows led).at now.sectors new.sectors (followed entry follows) drops.touches.inode gone drops.clear drops.free
 
 -- the first name may be removed
-pub may_remove_first : {p : Geometry} {old : TxnState} {processes : ProcessTable} (f g : Found) {n : ℕ} (ready : MayPerform p old processes)
+pub may_remove_first : {p : Geometry} {old : TxnState} {tables : Tables} (f g : Found) {n : ℕ} (ready : MayPerform p old tables)
     → MayMove p old.sectors ready.state f.dir_ino f.name n g.dir_ino g.name g.ino → MayRemove p f old
 may_remove_first {old = old} f g ready may = removable f ready (dir_below old ready.is_state may) (named_first old ready.is_state may)

@@ -5,13 +5,13 @@
 --     target_told        the last part, as the inode says it
 --     inode_told, target_found, target_met, target_may        where all is met
 --     target_gone        the name is gone
+use Rattle.call_parts.specs.BothTables.{Tables, users_of}
 use Rattle.fs_model.specs.declared.call.Call.TheVariants.{Unlink, Rmdir}
-use Rattle.call_parts.specs.Callers.{Who, MayMake, first_start}
+use Rattle.call_parts.specs.Callers.{Who, MayMake, first_start, is_told, opens}
 use Rattle.call_parts.proofs.Starts.{may_make, path_fits}
-use Rattle.std.specs.Prelude.{◌≡◌, ℕ, ◌==◌, Bool, true, false, not, ◌&&◌, ◌||◌, List, [], ◌∷◌, ◌++◌, Option, None, is_some, IsTrue, Ok}
-use Rattle.std.proofs.Common.{refl, sym, ap, subst, ◌∙◌}
-use Rattle.std.specs.List.{list_any}
-use Rattle.fs_cred.specs.declared.errno.Errno.TheVariants.{EBUSY, EINVAL, EISDIR, ENOENT, ENOTDIR, ENOTEMPTY}
+use Rattle.std.specs.Prelude.{◌≡◌, ℕ, Bool, true, false, not, ◌&&◌, ◌||◌, List, [], ◌∷◌, ◌++◌, Option, None, is_some, IsTrue, Ok}
+use Rattle.std.proofs.Common.{IsFalse, refl, sym, ap, subst, ◌∙◌}
+use Rattle.fs_cred.specs.declared.errno.Errno.TheVariants.{EBUSY, EINVAL, EISDIR, ENOTDIR, ENOTEMPTY}
 use Rattle.fs_cred.specs.declared.refusal.Refusal.{Refusal}
 use Rattle.fs_layout.specs.declared.inode.Inode.{Inode}
 use Rattle.fs_layout.specs.declared.geometry.Geometry.{Geometry}
@@ -29,7 +29,7 @@ use Rattle.fs_model.specs.Demands.{Demand, refuse, first_of}
 use Rattle.fs_model.specs.NameCalls.{takes_name}
 use Rattle.fs_model.specs.Nodes.{Node, is_directory, names_of_body}
 use Rattle.fs_model.specs.Parts.{is_empty}
-use Rattle.fs_model.specs.Processes.{Process, ProcessTable, is_in_use}
+use Rattle.fs_model.specs.Processes.{Process, is_in_use, users}
 use Rattle.fs_model.specs.Rows.{row_of}
 use Rattle.fs_model.specs.Scenes.{is_found, is_special, ends_top, ends_dot, ends_dot_dot, found_ino, must_be_there, by_path}
 use Rattle.fs_model.specs.Stands.{HoldsAll, placed}
@@ -66,12 +66,20 @@ asks : (what : Target) (path : List ℕ) → IsTrue (asks_in_call (removal_call 
 asks targets.NoDirectory path = refl
 asks targets.Directory path = refl
 
+never_opens : (what : Target) (path : List ℕ) → IsFalse (opens (removal_call what path))
+never_opens targets.NoDirectory path = refl
+never_opens targets.Directory path = refl
+
+pub never_told : (what : Target) (path : List ℕ) → IsFalse (is_told (removal_call what path))
+never_told targets.NoDirectory path = refl
+never_told targets.Directory path = refl
+
 may : (who : Who) (what : Target) (path : List ℕ) → MayMake who (removal_call what path) false
 may who targets.NoDirectory path = may_make who (Unlink path) refl refl
 may who targets.Directory path = may_make who (Rmdir path) refl refl
 
 pub removes_by_path : {who : Who} → (what : Target) (path : List ℕ) → WalksPath who (removal_call what path) (Ok tt) false Parent path (removal_demands what) takes_name
-removes_by_path {who} what path = record { arguments = []; row = row_is what path; are_checked = refl; asks = asks what path; may = may who what path }
+removes_by_path {who} what path = record { arguments = []; row = row_is what path; are_checked = refl; asks = asks what path; opens = never_opens what path; may = may who what path }
 
 -- ---- demands in three parts
 
@@ -83,9 +91,9 @@ parts_met a b c none =
 
 -- ---- what was found
 
-pub finds_name : {p : Geometry} {map : SectorMap} {processes : ProcessTable} {s : State} {who : Who} {q : Process} {path : List ℕ} {f : Found} → IsBytes path
-    → IsStateOf p map processes s → HasFound s who q false Parent path f → FindsName p map processes q f s
-finds_name {p} {map} {processes} {s} {who} {q} {path} {f} bytes at has = record { who = who; path = path; bytes = bytes; is_state = at; found = has }
+pub finds_name : {p : Geometry} {map : SectorMap} {tables : Tables} {s : State} {who : Who} {q : Process} {path : List ℕ} {f : Found} → IsBytes path
+    → IsStateOf p map tables s → HasFound s who q false Parent path f → FindsName p map tables q f s
+finds_name {p} {map} {tables} {s} {who} {q} {path} {f} bytes at has = record { who = who; path = path; bytes = bytes; is_state = at; found = has }
 
 -- where nothing more is asked of the last component, it is a name
 pub last_is_name : (what : Target) (f : Found) → first_of (last_asked what f) ≡ None → is_special f ≡ false
@@ -97,7 +105,7 @@ last_is_name targets.Directory f none =
     let dots = unrefused ENOTEMPTY (ends_dot_dot f) (first_met (refuse ENOTEMPTY (ends_dot_dot f)) None (then_met (refuse EINVAL (ends_dot f)) _ rest)) in
     ap (λ (b : Bool). b || ends_dot f || ends_dot_dot f) top ∙ ap (λ (b : Bool). b || ends_dot_dot f) dot ∙ dots
 
-module _ {p : Geometry} {map : SectorMap} {processes : ProcessTable} {q : Process} {f : Found} {s : State} (i : FindsName p map processes q f s) where
+module _ {p : Geometry} {map : SectorMap} {tables : Tables} {q : Process} {f : Found} {s : State} (i : FindsName p map tables q f s) where
   name_at : is_special f ≡ false → IsNameAt s.room s.tree f.dir_ino f.name f.ino
   name_at special =
       let walked : IsWalked s.room s.tree Parent (found_by s.room s.tree (first_start i.who q) (Parent, i.path)) =
@@ -144,32 +152,32 @@ module _ {p : Geometry} {map : SectorMap} {processes : ProcessTable} {q : Proces
     node_held = node.holds.body
 
     -- what is asked of it
-    pub target_told : (what : Target) → kind_asked what node.node.body (is_in_use processes n) ≡ target_asked what (scene_at s q f)
+    pub target_told : (what : Target) → kind_asked what node.node.body (is_in_use (users_of tables) n) ≡ target_asked what (scene_at s q f)
     target_told targets.NoDirectory =
         ap (λ (u : Node). refuse EISDIR (is_directory u.body) ∷ []) (sym node.is)
         ∙ ap (λ (o : Option ℕ). refuse EISDIR (is_some o && is_directory (the_node s.tree (found_ino f)).body) ∷ []) (sym k.some)
     target_told targets.Directory =
-        ap (λ (u : Node). directory_asked u.body (is_in_use processes n)) (sym node.is)
-        ∙ ap (λ (m : ℕ). directory_asked (the_node s.tree (found_ino f)).body (is_in_use processes m)) (sym k.number)
-        ∙ ap (λ (d : ProcessTable). directory_asked (the_node s.tree (found_ino f)).body (is_in_use d (found_ino f))) (sym i.is_state.same_processes)
-        ∙ ap (λ (o : Option ℕ). refuse ENOTDIR (is_some o && not (is_directory (the_node s.tree (found_ino f)).body)) ∷ refuse EBUSY (is_in_use s.processes (found_ino f))
+        ap (λ (u : Node). directory_asked u.body (is_in_use (users_of tables) n)) (sym node.is)
+        ∙ ap (λ (m : ℕ). directory_asked (the_node s.tree (found_ino f)).body (is_in_use (users_of tables) m)) (sym k.number)
+        ∙ ap (λ (d : Tables). directory_asked (the_node s.tree (found_ino f)).body (is_in_use (users_of d) (found_ino f))) (sym i.is_state.same_tables)
+        ∙ ap (λ (o : Option ℕ). refuse ENOTDIR (is_some o && not (is_directory (the_node s.tree (found_ino f)).body)) ∷ refuse EBUSY (is_in_use (users s.processes s.openings) (found_ino f))
         ∷ refuse ENOTEMPTY (not (is_empty (names_of_body (the_node s.tree (found_ino f)).body))) ∷ []) (sym k.some)
 
     module _ (what : Target) (first : checked (first_of (last_asked what f)) ≡ Ok tt) (met : first_of (removal_asked q.cred s.tree f) ≡ None) where
-      pub target_refuses : Refuses (first_of (kind_asked what node.node.body (is_in_use processes n))) (first_of (removal_demands what (scene_at s q f)))
+      pub target_refuses : Refuses (first_of (kind_asked what node.node.body (is_in_use (users_of tables) n))) (first_of (removal_demands what (scene_at s q f)))
       target_refuses =
           refuses_others (last what) (removal what ++ target what) (demand_met (first_of (last what)) first)
           (refuses_others (removal what) (target what) met (λ (e : Refusal) is. ap first_of (sym (target_told what)) ∙ is))
 
-      pub all_told : checked (first_of (kind_asked what node.node.body (is_in_use processes n))) ≡ Ok tt → first_of (removal_demands what (scene_at s q f)) ≡ None
+      pub all_told : checked (first_of (kind_asked what node.node.body (is_in_use (users_of tables) n))) ≡ Ok tt → first_of (removal_demands what (scene_at s q f)) ≡ None
       all_told is =
           all_met (last what) (removal what ++ target what) (demand_met (first_of (last what)) first)
           (all_met (removal what) (target what) met
-          (ap first_of (sym (target_told what)) ∙ demand_met (first_of (kind_asked what node.node.body (is_in_use processes n))) is))
+          (ap first_of (sym (target_told what)) ∙ demand_met (first_of (kind_asked what node.node.body (is_in_use (users_of tables) n))) is))
 
     -- an empty directory that isn't in use, if it is one
     free : (what : Target) → first_of (target_asked what (scene_at s q f)) ≡ None → IsTrue (is_directory node.node.body)
-        → (names_of_body node.node.body ≡ []) × (is_in_use s.processes n ≡ false)
+        → (names_of_body node.node.body ≡ []) × (is_in_use (users s.processes s.openings) n ≡ false)
     free targets.NoDirectory none is_dir =
         let other = unrefused EISDIR (is_found f && is_directory (the_node s.tree (found_ino f)).body)
         (first_met (refuse EISDIR (is_found f && is_directory (the_node s.tree (found_ino f)).body)) None none) in
@@ -178,14 +186,14 @@ module _ {p : Geometry} {map : SectorMap} {processes : ProcessTable} {q : Proces
         absurd (let both : true ≡ false = sym is_dir ∙ here in cc)
     free targets.Directory none is_dir =
         let rest = then_met (refuse ENOTDIR (is_found f && not (is_directory (the_node s.tree (found_ino f)).body))) _ none in
-        let used = unrefused EBUSY (is_in_use s.processes (found_ino f)) (first_met (refuse EBUSY (is_in_use s.processes (found_ino f))) _ rest) in
+        let used = unrefused EBUSY (is_in_use (users s.processes s.openings) (found_ino f)) (first_met (refuse EBUSY (is_in_use (users s.processes s.openings) (found_ino f))) _ rest) in
         let names = unrefused ENOTEMPTY (not (is_empty (names_of_body (the_node s.tree (found_ino f)).body)))
-        (first_met (refuse ENOTEMPTY (not (is_empty (names_of_body (the_node s.tree (found_ino f)).body)))) None (then_met (refuse EBUSY (is_in_use s.processes (found_ino f))) _ rest)) in (
+        (first_met (refuse ENOTEMPTY (not (is_empty (names_of_body (the_node s.tree (found_ino f)).body)))) None (then_met (refuse EBUSY (is_in_use (users s.processes s.openings) (found_ino f))) _ rest)) in (
           ap (λ (u : Node). names_of_body u.body) (sym node.is) ∙ empty_if (names_of_body (the_node s.tree (found_ino f)).body) names,
-          ap (is_in_use s.processes) (sym k.number) ∙ used,
+          ap (is_in_use (users s.processes s.openings)) (sym k.number) ∙ used,
         )
 
-    may_go : is_special f ≡ false → (IsTrue (is_directory node.node.body) → (names_of_body node.node.body ≡ []) × (is_in_use s.processes n ≡ false)) → MayGo s f.dir_ino f.name n
+    may_go : is_special f ≡ false → (IsTrue (is_directory node.node.body) → (names_of_body node.node.body ≡ []) × (is_in_use (users s.processes s.openings) n ≡ false)) → MayGo s f.dir_ino f.name n
     may_go special free =
         let x = name_at special in
         record {
@@ -228,10 +236,10 @@ module _ {p : Geometry} {map : SectorMap} {processes : ProcessTable} {q : Proces
 abbrev taken_touches : ℕ → Option ℕ → List (ℕ × Touch)
 taken_touches dir_ino o = (dir_ino, Modified) ∷ changed_at o
 
-name_gone : {p : Geometry} {new : SectorMap} {processes : ProcessTable} (s : State) (q : Process) (f : Found) (n : ℕ) (asked : List Demand) → first_of asked ≡ None → MayGo s f.dir_ino f.name n
-    → HoldsAll p new (placed (swept (changed s.tree (TakeName f.dir_ino f.name)) processes))
-    → IsChange p new processes s q asked (takes_name (scene_at s q f)) Done ((f.dir_ino, Modified) ∷ (n, Changed) ∷ [])
-name_gone {p} {new} {processes} s q f n asked met may holds = record {
+name_gone : {p : Geometry} {new : SectorMap} {tables : Tables} (s : State) (q : Process) (f : Found) (n : ℕ) (asked : List Demand) → first_of asked ≡ None → MayGo s f.dir_ino f.name n
+    → HoldsAll p new (placed (swept (changed s.tree (TakeName f.dir_ino f.name)) (users_of tables)))
+    → IsChange p new tables s q asked (takes_name (scene_at s q f)) Done ((f.dir_ino, Modified) ∷ (n, Changed) ∷ [])
+name_gone {p} {new} {tables} s q f n asked met may holds = record {
   met = met;
   number = 0;
   change = TakeName f.dir_ino f.name;
@@ -242,10 +250,10 @@ name_gone {p} {new} {processes} s q f n asked met may holds = record {
 }
 
 -- since before all was asked
-pub target_gone : {p : Geometry} {mid last : TxnState} {new : SectorMap} {processes : ProcessTable} {q : Process} {f : Found} {s : State} {n : ℕ} {v : Inode} (what : Target) → IsUnchanged mid last
-    → HoldsChange p processes (MayGoAt f n) (TakeName f.dir_ino f.name) last.sectors new → FindsName p mid.sectors processes q f s
+pub target_gone : {p : Geometry} {mid last : TxnState} {new : SectorMap} {tables : Tables} {q : Process} {f : Found} {s : State} {n : ℕ} {v : Inode} (what : Target) → IsUnchanged mid last
+    → HoldsChange p tables (MayGoAt f n) (TakeName f.dir_ino f.name) last.sectors new → FindsName p mid.sectors tables q f s
     → refused_or {A = ℕ × Inode} (first_of (removal_demands what (scene_at s q f))) (Ok (found_ino f, inode_at p mid.sectors (found_ino f))) ≡ Ok (n, v)
-    → IsChange p new processes s q (removal_demands what (scene_at s q f)) (takes_name (scene_at s q f)) Done ((f.dir_ino, Modified) ∷ (n, Changed) ∷ [])
+    → IsChange p new tables s q (removal_demands what (scene_at s q f)) (takes_name (scene_at s q f)) Done ((f.dir_ino, Modified) ∷ (n, Changed) ∷ [])
 target_gone {q = q} {f = f} {s = s} {n = n} what same taken finds is =
     let may = target_may finds what is in
     name_gone s q f n (removal_demands what (scene_at s q f)) (target_met finds what is) may (taken.holds s (state_kept same finds.is_state) may)

@@ -5,6 +5,7 @@
 --     names_refuse, move_refuses, same_met, move_met        the whole
 --     IsRenamable, rename_told        where all that is asked is met
 --     may_move, rename_stays, rename_changed        the name may go, nothing changed, and it has gone
+use Rattle.call_parts.specs.BothTables.{Tables, users_of}
 use Rattle.call_parts.specs.Callers.{Who}
 use Rattle.call_parts.proofs.Starts.{may_make}
 use Rattle.std.specs.Prelude.{◌≡◌, ◌≢◌, ℕ, ◌<◌, ◌≤◌, ◌==◌, nat_lt, Bool, true, false, not, ◌&&◌, List, [], ◌∷◌, ◌++◌, length, Option, None, Some, is_some, unwrap_or, if◌then◌else◌, IsTrue, Ok}
@@ -25,7 +26,7 @@ use Rattle.fs_model.specs.TreeChanges.{Same, MoveName, changed, changed_at, swep
 use Rattle.fs_model.specs.Demands.{Demand, first_of, only_if}
 use Rattle.fs_model.specs.Limits.{least_free}
 use Rattle.fs_model.specs.Nodes.{Node, names_of_body}
-use Rattle.fs_model.specs.Processes.{Process, ProcessTable, is_open}
+use Rattle.fs_model.specs.Processes.{Process, is_open}
 use Rattle.fs_model.specs.RenameCall.{is_same, rename_demands, rename_effect}
 use Rattle.fs_model.specs.Rows.{row_of}
 use Rattle.fs_model.specs.Scenes.{Scene, is_found, found_ino, changes}
@@ -61,7 +62,7 @@ use Rattle.call_parts.proofs.FoundBoth.{first_there, second_there, first_walked,
 
 pub rename_by_two : {who : Who} → (old new : List ℕ) → WalksBoth who (Rename old new) false old new rename_demands rename_effect
 unfolding row_of
-rename_by_two {who} old new = record { row = refl; asks = refl; may = may_make who _ refl refl }
+rename_by_two {who} old new = record { row = refl; asks = refl; opens = refl; may = may_make who _ refl refl }
 
 -- ---- the demands in two parts
 
@@ -98,18 +99,18 @@ Renamed = ℕ × Inode × Option (ℕ × Inode)
 named_there : (room : Room) (t : Tree) (x : Found) → IsNameAt room t x.dir_ino x.name x.ino → ((m : ℕ) → x.ino ≡ Some m → IsThere t m) → IsNamedThere t x
 named_there room t x at there = record { directory = record { node = at.node; is_there = at.stands; directory = at.directory }; found = there }
 
-pub record IsRenamable (p : Geometry) (map : SectorMap) (processes : ProcessTable) (q : Process) (f g : Found) (n : ℕ) (v : Inode) (there : Option (ℕ × Inode)) (s : State) : Type 0 where
+pub record IsRenamable (p : Geometry) (map : SectorMap) (tables : Tables) (q : Process) (f g : Found) (n : ℕ) (v : Inode) (there : Option (ℕ × Inode)) (s : State) : Type 0 where
   pub met : first_of (rename_demands (scene_with s q f g)) ≡ None
-  pub found : IsToRename p map processes f g n v there s
+  pub found : IsToRename p map tables f g n v there s
 
-module _ {p : Geometry} {map : SectorMap} {processes : ProcessTable} {q : Process} {f g : Found} {s : State} (i : FindsBoth p map processes q f g s) where
+module _ {p : Geometry} {map : SectorMap} {tables : Tables} {q : Process} {f g : Found} {s : State} (i : FindsBoth p map tables q f g s) where
   pub both_there : BothThere f g s.tree
   both_there = record { first = first_there i; second = second_there i }
 
   module _ {n : ℕ} {v : Inode} {there : Option (ℕ × Inode)} where
     found_to_rename : first_of (names_asked s.tree f g) ≡ None
         → ◌≡◌ {A = Renamed} (found_ino f, inode_at p map (found_ino f), inode_there p map g.ino) (n, v, there)
-        → IsToRename p map processes f g n v there s
+        → IsToRename p map tables f g n v there s
     found_to_rename met is =
         let named = names_say (scene_with s q f g) (demands.all_met (names_asked s.tree f g) met) in
         let same : found_ino f ≡ n = ap (λ (x : Renamed). x.0) is in
@@ -128,23 +129,23 @@ module _ {p : Geometry} {map : SectorMap} {processes : ProcessTable} {q : Proces
 
     -- the names ask nothing more
     pub to_rename : refused_or {A = Renamed} (first_of (names_asked s.tree f g)) (Ok (found_ino f, inode_at p map (found_ino f), inode_there p map g.ino)) ≡ Ok (n, v, there)
-        → (first_of (names_asked s.tree f g) ≡ None) × IsToRename p map processes f g n v there s
+        → (first_of (names_asked s.tree f g) ≡ None) × IsToRename p map tables f g n v there s
     to_rename told = (
       names_told told,
       found_to_rename (names_told told) (met_ok {A = Renamed} (first_of (names_asked s.tree f g)) (found_ino f, inode_at p map (found_ino f), inode_there p map g.ino) (n, v, there) told).1,
     )
 
     pub rename_told : refused_or {A = Renamed} (first_of (rename_demands (scene_with s q f g))) (Ok (found_ino f, inode_at p map (found_ino f), inode_there p map g.ino)) ≡ Ok (n, v, there)
-        → IsRenamable p map processes q f g n v there s
+        → IsRenamable p map tables q f g n v there s
     rename_told told =
         let both = met_ok {A = Renamed} (first_of (rename_demands (scene_with s q f g))) (found_ino f, inode_at p map (found_ino f), inode_there p map g.ino) (n, v, there) told in
         record { met = both.0; found = found_to_rename (names_of_all s q f g both.0) both.1 }
 
 -- ---- whether both are one object
 
-pub same_is : {p : Geometry} {map : SectorMap} {processes : ProcessTable} (q : Process) {f g : Found} {n : ℕ} {v : Inode} {there : Option (ℕ × Inode)} {s : State}
-    → IsToRename p map processes f g n v there s → is_same (scene_with s q f g) ≡ same_number n there
-same_is {p} {map} {processes} q {f} {g} {n} {v} {there} {s} r = go g.ino refl
+pub same_is : {p : Geometry} {map : SectorMap} {tables : Tables} (q : Process) {f g : Found} {n : ℕ} {v : Inode} {there : Option (ℕ × Inode)} {s : State}
+    → IsToRename p map tables f g n v there s → is_same (scene_with s q f g) ≡ same_number n there
+same_is {p} {map} {tables} q {f} {g} {n} {v} {there} {s} r = go g.ino refl
   where
     first : is_same (scene_with s q f g) ≡ (is_found g && n == found_ino g)
     first = ap (λ (o : Option ℕ). is_some o && is_found g && unwrap_or o 0 == found_ino g) r.leads
@@ -159,8 +160,8 @@ same_is {p} {map} {processes} q {f} {g} {n} {v} {there} {s} r = go g.ino refl
 
 -- ---- the name may go
 
-module _ {p : Geometry} {map : SectorMap} {processes : ProcessTable} {q : Process} {f g : Found} {s : State} (i : FindsBoth p map processes q f g s)
-    {n : ℕ} {v : Inode} {there : Option (ℕ × Inode)} (r : IsRenamable p map processes q f g n v there s) (apart : same_number n there ≡ false) where
+module _ {p : Geometry} {map : SectorMap} {tables : Tables} {q : Process} {f g : Found} {s : State} (i : FindsBoth p map tables q f g s)
+    {n : ℕ} {v : Inode} {there : Option (ℕ × Inode)} (r : IsRenamable p map tables q f g n v there s) (apart : same_number n there ≡ false) where
   abbrev scene : Scene
   scene = scene_with s q f g
 
@@ -214,10 +215,10 @@ module _ {p : Geometry} {map : SectorMap} {processes : ProcessTable} {q : Proces
 abbrev both_touches : ℕ → ℕ → Option ℕ → Option ℕ → List (ℕ × Touch)
 both_touches dir_ino to_dir_ino o replaced = (dir_ino, Modified) ∷ (to_dir_ino, Modified) ∷ (changed_at o ++ changed_at replaced)
 
-module _ {p : Geometry} {new : SectorMap} {processes : ProcessTable} (s : State) (q : Process) (f g : Found) (met : first_of (rename_demands (scene_with s q f g)) ≡ None) where
+module _ {p : Geometry} {new : SectorMap} {tables : Tables} (s : State) (q : Process) (f g : Found) (met : first_of (rename_demands (scene_with s q f g)) ≡ None) where
   rename_changes : {map : SectorMap} (n : ℕ) → MayMove p map s f.dir_ino f.name n g.dir_ino g.name g.ino → is_same (scene_with s q f g) ≡ false
-      → HoldsAll p new (placed (swept (changed s.tree (MoveName f.dir_ino f.name g.dir_ino g.name)) processes))
-      → IsChange p new processes s q (rename_demands (scene_with s q f g)) (λ k. rename_effect (scene_with s q f g)) Done (renamed_touches f.dir_ino g.dir_ino n g.ino)
+      → HoldsAll p new (placed (swept (changed s.tree (MoveName f.dir_ino f.name g.dir_ino g.name)) (users_of tables)))
+      → IsChange p new tables s q (rename_demands (scene_with s q f g)) (λ k. rename_effect (scene_with s q f g)) Done (renamed_touches f.dir_ino g.dir_ino n g.ino)
   rename_changes n may apart holds = record {
     met = met;
     number = 0;
@@ -231,8 +232,8 @@ module _ {p : Geometry} {new : SectorMap} {processes : ProcessTable} (s : State)
   }
 
   -- both names are of one object
-  pub rename_stays : is_same (scene_with s q f g) ≡ true → IsStateOf p new processes s
-      → IsChange p new processes s q (rename_demands (scene_with s q f g)) (λ k. rename_effect (scene_with s q f g)) Done []
+  pub rename_stays : is_same (scene_with s q f g) ≡ true → IsStateOf p new tables s
+      → IsChange p new tables s q (rename_demands (scene_with s q f g)) (λ k. rename_effect (scene_with s q f g)) Done []
   rename_stays same at = record {
     met = met;
     number = 0;
@@ -240,15 +241,15 @@ module _ {p : Geometry} {new : SectorMap} {processes : ProcessTable} (s : State)
     is = ap (λ (b : Bool). changes (scene_with s q f g) (if b then Same else MoveName f.dir_ino f.name g.dir_ino g.name)) same;
     new_number = tt;
     times = refl;
-    holds = same_held s at.is_state at.up processes (λ k is. subst (λ (d : ProcessTable). IsTrue (is_open d k)) at.same_processes is) p new at.holds at.same_room;
+    holds = same_held s at.is_state at.up (users_of tables) (λ k is. subst (λ (d : Tables). IsTrue (is_open (users_of d) k)) at.same_tables is) p new at.holds at.same_room;
   }
 
 -- since before all was asked
-pub rename_changed : {p : Geometry} {mid last : TxnState} {new : SectorMap} {processes : ProcessTable} {q : Process} {f g : Found} {s : State} {n : ℕ} {v : Inode} {there : Option (ℕ × Inode)} → IsUnchanged mid last
-    → HoldsChange p processes (MayMoveTo p last.sectors f g n) (MoveName f.dir_ino f.name g.dir_ino g.name) last.sectors new → FindsBoth p mid.sectors processes q f g s
-    → IsRenamable p mid.sectors processes q f g n v there s → same_number n there ≡ false
-    → IsChange p new processes s q (rename_demands (scene_with s q f g)) (λ k. rename_effect (scene_with s q f g)) Done (renamed_touches f.dir_ino g.dir_ino n g.ino)
-rename_changed {p} {mid} {last} {new} {processes} {q} {f} {g} {s} {n} same moved finds told apart =
+pub rename_changed : {p : Geometry} {mid last : TxnState} {new : SectorMap} {tables : Tables} {q : Process} {f g : Found} {s : State} {n : ℕ} {v : Inode} {there : Option (ℕ × Inode)} → IsUnchanged mid last
+    → HoldsChange p tables (MayMoveTo p last.sectors f g n) (MoveName f.dir_ino f.name g.dir_ino g.name) last.sectors new → FindsBoth p mid.sectors tables q f g s
+    → IsRenamable p mid.sectors tables q f g n v there s → same_number n there ≡ false
+    → IsChange p new tables s q (rename_demands (scene_with s q f g)) (λ k. rename_effect (scene_with s q f g)) Done (renamed_touches f.dir_ino g.dir_ino n g.ino)
+rename_changed {p} {mid} {last} {new} {tables} {q} {f} {g} {s} {n} same moved finds told apart =
     let may = may_move finds told apart in
     rename_changes s q f g told.met n may (same_is q told.found ∙ apart)
     (moved.holds s (state_kept same finds.is_state) (kept (λ (m : SectorMap). MayMoveTo p m f g n s) same may))

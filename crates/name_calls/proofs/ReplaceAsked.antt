@@ -11,6 +11,7 @@
 --     room_is        room for a new name
 --     to_rename_kept        the same after reads
 --     there_some, other_replaced, there_body, directory_replaced        what is replaced
+use Rattle.call_parts.specs.BothTables.{Tables, users_of, tables_in}
 use Rattle.std.specs.Prelude.{◌≡◌, ◌≢◌, ℕ, ◌-◌, ◌==◌, nat_lt, nat_le, Bool, true, false, not, ◌&&◌, List, [], ◌∷◌, ◌++◌, length, Option, None, Some, is_some, unwrap_or, Ok}
 use Rattle.std.proofs.Common.{refl, sym, ap, subst, arith, ◌∙◌}
 use Rattle.std.proofs.lemmas.Bool.Decides.{nat_tests}
@@ -36,7 +37,7 @@ use Rattle.fs_model.specs.Demands.{Demand, refuse, first_of, only_if, decided, a
 use Rattle.fs_model.specs.Limits.{least_free}
 use Rattle.fs_model.specs.Nodes.{Node, Body, File, Dir, Link, is_directory, names_of_body}
 use Rattle.fs_model.specs.Parts.{is_empty}
-use Rattle.fs_model.specs.Processes.{Process, ProcessTable, is_in_use}
+use Rattle.fs_model.specs.Processes.{Process, is_in_use, ProcessTable}
 use Rattle.fs_model.specs.RenameCall.{rename_permissions, rename_kinds, rename_directories, rename_moved, rename_space}
 use Rattle.fs_model.specs.Rules.{is_directory_kind}
 use Rattle.fs_model.specs.Scenes.{Scene, is_found, found_ino}
@@ -78,7 +79,7 @@ both_grant p {old} {mid} t q f g d to same told then_told =
     record { first = one.0; second = two.0; from_is = sym one.1; to_is = two.1 }
 
 -- so it is where both have answered, one after the other
-pub granted : {p : Geometry} {old mid : TxnState} {processes : ProcessTable} {f g : Found} {n : ℕ} {v : Inode} {there : Option (ℕ × Inode)} {s : State} (r : IsToRename p old.sectors processes f g n v there s) (q : Process)
+pub granted : {p : Geometry} {old mid : TxnState} {tables : Tables} {f g : Found} {n : ℕ} {v : Inode} {there : Option (ℕ × Inode)} {s : State} (r : IsToRename p old.sectors tables f g n v there s) (q : Process)
     {d to : Inode} → IsUnchanged old mid
     → ((t : Tree) → HoldsTree p old.sectors t → IsDirectoryAt t f.dir_ino
     → refused_or {A = Inode} (permission_on q.cred t f.dir_ino write_and_search 1 (f.step - 1)) (Ok (inode_at p old.sectors f.dir_ino)) ≡ Ok d)
@@ -158,7 +159,7 @@ other_number_is x y apart = grind (arith, nat_tests)
 
 -- ---- what is renamed
 
-module _ {p : Geometry} {map : SectorMap} {processes : ProcessTable} {f g : Found} {n : ℕ} {v : Inode} {there : Option (ℕ × Inode)} {s : State} (r : IsToRename p map processes f g n v there s) where
+module _ {p : Geometry} {map : SectorMap} {tables : Tables} {f g : Found} {n : ℕ} {v : Inode} {there : Option (ℕ × Inode)} {s : State} (r : IsToRename p map tables f g n v there s) where
   pub inode_of : IsInodeFound p map f n v
   inode_of = record {
     some = r.leads;
@@ -249,10 +250,10 @@ module _ {p : Geometry} {map : SectorMap} {processes : ProcessTable} {f g : Foun
         ap (λ (b : Bool). refuse EINVAL (b && is_within (length s.tree) s.tree (found_ino f) g.dir_ino)) (first_kind (state_tree r.is_state) inode_of r.first.found)
         ∙ ap (λ (m : ℕ). refuse EINVAL (is_directory_kind v.kind && is_within (length s.tree) s.tree m g.dir_ino)) inode_of.number
 
-    pub directories_are : rename_directories (scene_with s q f g) ≡ below_asked s.tree v.kind n g.dir_ino ∷ replaced_asked s.tree processes g
+    pub directories_are : rename_directories (scene_with s q f g) ≡ below_asked s.tree v.kind n g.dir_ino ∷ replaced_asked s.tree (users_of tables) g
     directories_are =
-        ap (λ (d : Demand). d ∷ replaced_asked s.tree s.processes g) below_is
-        ∙ ap (λ (d : ProcessTable). below_asked s.tree v.kind n g.dir_ino ∷ replaced_asked s.tree d g) r.is_state.same_processes
+        ap (λ (d : Demand). d ∷ replaced_asked s.tree (users_of (tables_in s)) g) below_is
+        ∙ ap (λ (d : Tables). below_asked s.tree v.kind n g.dir_ino ∷ replaced_asked s.tree (users_of d) g) r.is_state.same_tables
 
     -- ---- the kinds of both
 
@@ -286,22 +287,22 @@ module _ {p : Geometry} {map : SectorMap} {processes : ProcessTable} {f g : Foun
         pub below_refuses : Refuses (below_asked s.tree v.kind n g.dir_ino) (first_of (move_asked (scene_with s q f g)))
         below_refuses e is =
             third_part (rename_permissions sc) (rename_kinds sc) (rename_directories sc) (rename_moved sc) (rename_space sc) one_met two_met e
-            (ap first_of directories_are ∙ refuses_first (below_asked s.tree v.kind n g.dir_ino) (replaced_asked s.tree processes g) e is)
+            (ap first_of directories_are ∙ refuses_first (below_asked s.tree v.kind n g.dir_ino) (replaced_asked s.tree (users_of tables) g) e is)
 
         module _ (apart : checked (below_asked s.tree v.kind n g.dir_ino) ≡ Ok tt) where
-          pub replaced_refuses : Refuses (first_of (replaced_asked s.tree processes g)) (first_of (move_asked (scene_with s q f g)))
+          pub replaced_refuses : Refuses (first_of (replaced_asked s.tree (users_of tables) g)) (first_of (move_asked (scene_with s q f g)))
           replaced_refuses e is =
               third_part (rename_permissions sc) (rename_kinds sc) (rename_directories sc) (rename_moved sc) (rename_space sc) one_met two_met e
               (ap first_of directories_are
-              ∙ refuses_next (below_asked s.tree v.kind n g.dir_ino) (replaced_asked s.tree processes g) (demand_met (below_asked s.tree v.kind n g.dir_ino) apart) (λ (k : Refusal) h. h) e is)
+              ∙ refuses_next (below_asked s.tree v.kind n g.dir_ino) (replaced_asked s.tree (users_of tables) g) (demand_met (below_asked s.tree v.kind n g.dir_ino) apart) (λ (k : Refusal) h. h) e is)
 
-          pub three_parts : checked (first_of (replaced_asked s.tree processes g)) ≡ Ok tt → MeetsThree s q f g
+          pub three_parts : checked (first_of (replaced_asked s.tree (users_of tables) g)) ≡ Ok tt → MeetsThree s q f g
           three_parts is = record {
             permissions = one_met;
             kinds = two_met;
             directories = ap first_of directories_are
-                ∙ both_met (below_asked s.tree v.kind n g.dir_ino) (replaced_asked s.tree processes g) (demand_met (below_asked s.tree v.kind n g.dir_ino) apart)
-                (demand_met (first_of (replaced_asked s.tree processes g)) is);
+                ∙ both_met (below_asked s.tree v.kind n g.dir_ino) (replaced_asked s.tree (users_of tables) g) (demand_met (below_asked s.tree v.kind n g.dir_ino) apart)
+                (demand_met (first_of (replaced_asked s.tree (users_of tables) g)) is);
           }
 
     -- ---- a directory that goes to another
@@ -368,9 +369,9 @@ module _ {p : Geometry} {map : SectorMap} {processes : ProcessTable} {f g : Foun
         ∙ ap (λ (k : Room). refuse ENOSPC (nat_lt (free_sectors p map) least_free) ∷ refuse ENOSPC (nat_le k.entries_limit (length (names_of_body (the_node s.tree g.dir_ino).body))) ∷ []) r.is_state.same_room
 
 -- what is asked of a rename holds after reads too
-pub to_rename_kept : {p : Geometry} {old new : TxnState} {processes : ProcessTable} {f g : Found} {n : ℕ} {v : Inode} {there : Option (ℕ × Inode)} {s : State} → IsUnchanged old new
-    → IsToRename p old.sectors processes f g n v there s → IsToRename p new.sectors processes f g n v there s
-to_rename_kept {p} {old} {new} {processes} {f} {g} {n} {v} {there} {s} same r = kept (λ (m : SectorMap). IsToRename p m processes f g n v there s) same r
+pub to_rename_kept : {p : Geometry} {old new : TxnState} {tables : Tables} {f g : Found} {n : ℕ} {v : Inode} {there : Option (ℕ × Inode)} {s : State} → IsUnchanged old new
+    → IsToRename p old.sectors tables f g n v there s → IsToRename p new.sectors tables f g n v there s
+to_rename_kept {p} {old} {new} {tables} {f} {g} {n} {v} {there} {s} same r = kept (λ (m : SectorMap). IsToRename p m tables f g n v there s) same r
 
 -- ---- below itself
 
@@ -394,7 +395,7 @@ no_names (File a bytes) e = refl
 no_names (Dir a d) e = absurd (cc)
 no_names (Link target) e = refl
 
-module _ {p : Geometry} {map : SectorMap} {t : Tree} (h : HoldsTree p map t) (g : Found) (there : (m : ℕ) → g.ino ≡ Some m → IsThere t m) (processes : ProcessTable) where
+module _ {p : Geometry} {map : SectorMap} {t : Tree} (h : HoldsTree p map t) (g : Found) (there : (m : ℕ) → g.ino ≡ Some m → IsThere t m) (all : ProcessTable) where
   abbrev body : Body
   body = (the_node t (found_ino g)).body
 
@@ -402,17 +403,17 @@ module _ {p : Geometry} {map : SectorMap} {t : Tree} (h : HoldsTree p map t) (g 
     kind_is : is_directory body ≡ is_directory_kind (inode_at p map m).kind
     kind_is = ap (λ (o : Option ℕ). is_directory (the_node t (unwrap_or o 0)).body) some ∙ kind_at h m (there m some)
 
-    here : (d : Bool) → is_directory body ≡ d → replaced_asked t processes g ≡ refuse EBUSY (d && is_in_use processes m) ∷ refuse ENOTEMPTY (not (is_empty (names_of_body body))) ∷ []
+    here : (d : Bool) → is_directory body ≡ d → replaced_asked t all g ≡ refuse EBUSY (d && is_in_use all m) ∷ refuse ENOTEMPTY (not (is_empty (names_of_body body))) ∷ []
     here d is =
-        ap (λ (o : Option ℕ). refuse EBUSY ((is_some o && is_directory body) && is_in_use processes (found_ino g)) ∷ refuse ENOTEMPTY (is_some o && not (is_empty (names_of_body body))) ∷ []) some
-        ∙ ap (λ (b : Bool). refuse EBUSY (b && is_in_use processes (found_ino g)) ∷ refuse ENOTEMPTY (not (is_empty (names_of_body body))) ∷ []) is
-        ∙ ap (λ (o : Option ℕ). refuse EBUSY (d && is_in_use processes (unwrap_or o 0)) ∷ refuse ENOTEMPTY (not (is_empty (names_of_body body))) ∷ []) some
+        ap (λ (o : Option ℕ). refuse EBUSY ((is_some o && is_directory body) && is_in_use all (found_ino g)) ∷ refuse ENOTEMPTY (is_some o && not (is_empty (names_of_body body))) ∷ []) some
+        ∙ ap (λ (b : Bool). refuse EBUSY (b && is_in_use all (found_ino g)) ∷ refuse ENOTEMPTY (not (is_empty (names_of_body body))) ∷ []) is
+        ∙ ap (λ (o : Option ℕ). refuse EBUSY (d && is_in_use all (unwrap_or o 0)) ∷ refuse ENOTEMPTY (not (is_empty (names_of_body body))) ∷ []) some
 
     -- what is replaced is no directory
-    pub other_replaced : is_directory_kind (inode_at p map m).kind ≡ false → first_of (replaced_asked t processes g) ≡ None
+    pub other_replaced : is_directory_kind (inode_at p map m).kind ≡ false → first_of (replaced_asked t all g) ≡ None
     other_replaced other =
         ap first_of (here false (kind_is ∙ other))
-        ∙ ap (λ (names : List (List ℕ × ℕ)). first_of (refuse EBUSY (false && is_in_use processes m) ∷ refuse ENOTEMPTY (not (is_empty names)) ∷ [])) (no_names body (kind_is ∙ other))
+        ∙ ap (λ (names : List (List ℕ × ℕ)). first_of (refuse EBUSY (false && is_in_use all m) ∷ refuse ENOTEMPTY (not (is_empty names)) ∷ [])) (no_names body (kind_is ∙ other))
 
     -- what its inode holds
     pub there_body : (v : Inode) → v ≡ inode_at p map m → IsNode p.version map t g m v
@@ -420,10 +421,10 @@ module _ {p : Geometry} {map : SectorMap} {t : Tree} (h : HoldsTree p map t) (g 
 
     -- what is replaced is a directory
     pub directory_replaced : (v : Inode) (is : v ≡ inode_at p map m) → v.kind ≡ kinds.Directory
-        → first_of (directory_asked (there_body v is).node.body (is_in_use processes m)) ≡ first_of (replaced_asked t processes g)
+        → first_of (directory_asked (there_body v is).node.body (is_in_use all m)) ≡ first_of (replaced_asked t all g)
     directory_replaced v is kind =
         let x = there_body v is in
         let dir_ino : is_directory body ≡ true = kind_is ∙ ap (λ (w : Inode). is_directory_kind w.kind) (sym is) ∙ ap is_directory_kind kind in
-        ap (λ (u : Node). first_of (directory_asked u.body (is_in_use processes m))) (sym x.is)
-        ∙ ap (λ (b : Bool). first_of (refuse ENOTDIR (not b) ∷ refuse EBUSY (is_in_use processes m) ∷ refuse ENOTEMPTY (not (is_empty (names_of_body body))) ∷ [])) dir_ino
+        ap (λ (u : Node). first_of (directory_asked u.body (is_in_use all m))) (sym x.is)
+        ∙ ap (λ (b : Bool). first_of (refuse ENOTDIR (not b) ∷ refuse EBUSY (is_in_use all m) ∷ refuse ENOTEMPTY (not (is_empty (names_of_body body))) ∷ [])) dir_ino
         ∙ sym (ap first_of (here true dir_ino))

@@ -27,6 +27,7 @@ use Rattle.fs_model.specs.TreeChanges.{TakeName, changed, swept, lives_nameless}
 use Rattle.fs_model.specs.Limits.{root}
 use Rattle.fs_model.specs.Nodes.{Node, Body, File, Dir, Link, is_directory, names_of_body}
 use Rattle.fs_model.specs.Processes.{ProcessTable, is_open}
+use Rattle.call_parts.specs.BothTables.{Tables, users_of, tables_in}
 use Rattle.fs_model.specs.Stands.{HoldsAll, placed}
 use Rattle.fs_model.specs.States.{State}
 use Rattle.fs_model.specs.StoredNodes.{Placed, HoldsBody, HoldsNode, names_field}
@@ -60,31 +61,31 @@ field_is (File a bytes) names other = refl
 field_is (Dir a d) names other = absurd (cc)
 field_is (Link target) names other = refl
 
-stays_says : (version : Version) (image : SectorMap) (v : Inode) (b : Body) (names n : ℕ) (processes : ProcessTable) (opened : Bool) → HoldsBody version image v b → v.names ≡ names_field b names
-    → (IsTrue (is_directory b) → names ≡ 1) → (n == root) ≡ false → opened ≡ is_open processes n
-    → stays_with v.kind (v.names - 1) opened ≡ (not (names - 1 == 0) || lives_nameless processes n b)
-stays_says version image v (File a bytes) names n processes opened h are one other is =
+stays_says : (version : Version) (image : SectorMap) (v : Inode) (b : Body) (names n : ℕ) (users : ProcessTable) (opened : Bool) → HoldsBody version image v b → v.names ≡ names_field b names
+    → (IsTrue (is_directory b) → names ≡ 1) → (n == root) ≡ false → opened ≡ is_open users n
+    → stays_with v.kind (v.names - 1) opened ≡ (not (names - 1 == 0) || lives_nameless users n b)
+stays_says version image v (File a bytes) names n users opened h are one other is =
     ap (λ (k : Kind). stays_with k (v.names - 1) opened) h.kind ∙ ap (λ m. stays_with kinds.File (m - 1) opened) are
     ∙ ap (λ o. not (names - 1 == 0) || o) is
-stays_says version image v (Dir a d) names n processes opened h are one other is =
+stays_says version image v (Dir a d) names n users opened h are one other is =
     ap (λ (k : Kind). stays_with k (v.names - 1) opened) h.names.kind ∙ ap (λ m. stays_with kinds.Directory (m - 1) opened) are
     ∙ sym (ap (λ m. not (m - 1 == 0) || n == root) (one refl) ∙ other)
-stays_says version image v (Link target) names n processes opened h are one other is =
+stays_says version image v (Link target) names n users opened h are one other is =
     ap (λ (k : Kind). stays_with k (v.names - 1) opened) h.kind ∙ ap (λ m. stays_with kinds.Link (m - 1) opened) are
     ∙ sym (ap (λ o. not (names - 1 == 0) || o) other)
 
 -- an inode of this node loses a name
-module _ {p : Geometry} {n : ℕ} (processes : ProcessTable) {mid new : TxnState} {node : Node} {names up : ℕ}
+module _ {p : Geometry} {n : ℕ} (users : ProcessTable) {mid new : TxnState} {node : Node} {names up : ℕ}
     (held : HoldsNode p.version mid.sectors (inode_at p mid.sectors n) (record { node = node; names = names; parent = up })) (one : IsTrue (is_directory node.body) → names ≡ 1)
-    (other : (n == root) ≡ false) (opened : Bool) (is : opened ≡ is_open processes n) (loses : LosesName p n opened mid new) where
+    (other : (n == root) ≡ false) (opened : Bool) (is : opened ≡ is_open users n) (loses : LosesName p n opened mid new) where
   abbrev v : Inode
   v = inode_at p mid.sectors n
 
-  stays_is : stays_with v.kind (v.names - 1) opened ≡ (not (names - 1 == 0) || lives_nameless processes n node.body)
-  stays_is = stays_says p.version mid.sectors v node.body names n processes opened held.body held.names one other is
+  stays_is : stays_with v.kind (v.names - 1) opened ≡ (not (names - 1 == 0) || lives_nameless users n node.body)
+  stays_is = stays_says p.version mid.sectors v node.body names n users opened held.body held.names one other is
 
   -- no directory stays
-  no_directory : (not (names - 1 == 0) || lives_nameless processes n node.body) ≡ true → is_directory node.body ≡ false
+  no_directory : (not (names - 1 == 0) || lives_nameless users n node.body) ≡ true → is_directory node.body ≡ false
   no_directory stay = go node.body refl
     where
       go : (b : Body) → node.body ≡ b → is_directory b ≡ false
@@ -92,14 +93,14 @@ module _ {p : Geometry} {n : ℕ} (processes : ProcessTable) {mid new : TxnState
       go (Link target) e = refl
       go (Dir a d) e =
           let single = one (ap is_directory e) in
-          let goes : (not (names - 1 == 0) || lives_nameless processes n node.body) ≡ false =
-          ap (λ k. not (k - 1 == 0) || lives_nameless processes n node.body) single ∙ ap (lives_nameless processes n) e ∙ other in
+          let goes : (not (names - 1 == 0) || lives_nameless users n node.body) ≡ false =
+          ap (λ k. not (k - 1 == 0) || lives_nameless users n node.body) single ∙ ap (lives_nameless users n) e ∙ other in
           absurd (let both : true ≡ false = sym stay ∙ goes in cc)
 
-  pub left_counts : (not (names - 1 == 0) || lives_nameless processes n node.body) ≡ true → Counts p n (v.names - 1) mid new
+  pub left_counts : (not (names - 1 == 0) || lives_nameless users n node.body) ≡ true → Counts p n (v.names - 1) mid new
   left_counts stay = loses.stays (stays_is ∙ stay)
 
-  pub left_held : (not (names - 1 == 0) || lives_nameless processes n node.body) ≡ true → (above : ℕ)
+  pub left_held : (not (names - 1 == 0) || lives_nameless users n node.body) ≡ true → (above : ℕ)
       → HoldsNode p.version new.sectors (inode_at p new.sectors n) (record { node = node; names = names - 1; parent = above })
   left_held stay above =
       let counts = left_counts stay in
@@ -107,10 +108,10 @@ module _ {p : Geometry} {n : ℕ} (processes : ProcessTable) {mid new : TxnState
       counted_held mid.sectors new.sectors v (inode_at p new.sectors n) (record { node = node; names = names; parent = up }) held (names - 1) above file
       (counts.saved ∙ ap (λ (k : ℕ). record v { names = k - 1 }) (held.names ∙ field_is node.body names file)) counts.bytes counts.acls
 
-  pub left_drops : (not (names - 1 == 0) || lives_nameless processes n node.body) ≡ false → Drops p n mid new
+  pub left_drops : (not (names - 1 == 0) || lives_nameless users n node.body) ≡ false → Drops p n mid new
   left_drops goes = loses.goes (stays_is ∙ goes)
 
-module _ {p : Geometry} (old : TxnState) {processes : ProcessTable} {s : State} (at : IsStateOf p old.sectors processes s) {dir_ino : ℕ} {name : List ℕ} {n : ℕ} (may : MayGo s dir_ino name n) where
+module _ {p : Geometry} (old : TxnState) {tables : Tables} {s : State} (at : IsStateOf p old.sectors tables s) {dir_ino : ℕ} {name : List ℕ} {n : ℕ} (may : MayGo s dir_ino name n) where
   abbrev directory : Node
   directory = may.directory.node
 
@@ -123,7 +124,7 @@ module _ {p : Geometry} (old : TxnState) {processes : ProcessTable} {s : State} 
       let same : d.node ≡ may.target = cc in
       ap (λ (u : Node). is_directory u.body) (sym same) ∙ d.directory
 
-  takes : TakesName s.tree s.processes dir_ino directory name n
+  takes : TakesName s.tree (users_of (tables_in s)) dir_ino directory name n
   takes = record {
     stands = may.directory.is_there;
     is_dir = may.directory.directory;
@@ -132,8 +133,8 @@ module _ {p : Geometry} (old : TxnState) {processes : ProcessTable} {s : State} 
     unused = λ d. may.unused (is_target d);
   }
 
-  still : (k : ℕ) → IsTrue (is_open s.processes k) → IsTrue (is_open processes k)
-  still k is = subst (λ (d : ProcessTable). IsTrue (is_open d k)) at.same_processes is
+  still : (k : ℕ) → IsTrue (is_open (users_of (tables_in s)) k) → IsTrue (is_open (users_of tables) k)
+  still k is = subst (λ (d : Tables). IsTrue (is_open (users_of d) k)) at.same_tables is
 
   pub dir_below : dir_ino < p.inodes
   dir_below = node_below s p at.is_state at.same_room dir_ino directory may.directory.is_there
@@ -142,7 +143,7 @@ module _ {p : Geometry} (old : TxnState) {processes : ProcessTable} {s : State} 
   is_number = ((at.is_state.tree.each n may.target may.there).positive, node_below s p at.is_state at.same_room n may.target may.there)
 
   apart : n ≢ dir_ino
-  apart = taken_apart s at.is_state at.up processes still dir_ino directory name n takes
+  apart = taken_apart s at.is_state at.up (users_of tables) still dir_ino directory name n takes
 
   dir_held : HoldsNode p.version old.sectors (inode_at p old.sectors dir_ino) (record { node = directory; names = names_of s.tree dir_ino; parent = parent s.tree dir_ino })
   dir_held = held_node (state_tree at) dir_ino directory may.directory.is_there
@@ -165,7 +166,7 @@ module _ {p : Geometry} (old : TxnState) {processes : ProcessTable} {s : State} 
 
   some_name : 1 ≤ names_of s.tree n
   some_name =
-      let all = (takes_loses s.room s.tree s.processes dir_ino directory name n at.is_state.tree takes).counts n in
+      let all = (takes_loses s.room s.tree (users_of (tables_in s)) dir_ino directory name n at.is_state.tree takes).counts n in
       let one = once_same n n refl in
       omega (arith, all, one)
 
@@ -198,22 +199,22 @@ module _ {p : Geometry} (old : TxnState) {processes : ProcessTable} {s : State} 
 
     -- ---- and it loses the name
 
-    module _ {new : TxnState} (opened : Bool) (is : opened ≡ is_open processes n) (loses : LosesName p n opened mid new) where
-      pub taken_holds : HoldsAll p new.sectors (placed (swept (changed s.tree (TakeName dir_ino name)) processes))
-      taken_holds = go (not (names_of s.tree n - 1 == 0) || lives_nameless processes n may.target.body) refl
+    module _ {new : TxnState} (opened : Bool) (is : opened ≡ is_open (users_of tables) n) (loses : LosesName p n opened mid new) where
+      pub taken_holds : HoldsAll p new.sectors (placed (swept (changed s.tree (TakeName dir_ino name)) (users_of tables)))
+      taken_holds = go (not (names_of s.tree n - 1 == 0) || lives_nameless (users_of tables) n may.target.body) refl
         where
-          go : (b : Bool) → (not (names_of s.tree n - 1 == 0) || lives_nameless processes n may.target.body) ≡ b
-              → HoldsAll p new.sectors (placed (swept (changed s.tree (TakeName dir_ino name)) processes))
+          go : (b : Bool) → (not (names_of s.tree n - 1 == 0) || lives_nameless (users_of tables) n may.target.body) ≡ b
+              → HoldsAll p new.sectors (placed (swept (changed s.tree (TakeName dir_ino name)) (users_of tables)))
           go true stay =
-              let counts = left_counts processes target_held one_name other opened is loses stay in
-              take_held s at.is_state at.up processes still p old.sectors at.holds at.same_room mid.sectors new.sectors dir_ino directory name n may.target takes may.there
+              let counts = left_counts (users_of tables) target_held one_name other opened is loses stay in
+              take_held s at.is_state at.up (users_of tables) still p old.sectors at.holds at.same_room mid.sectors new.sectors dir_ino directory name n may.target takes may.there
               removes.touches.inode removes.names.used here counts.touches.inode stay counts.used
-              (left_held processes target_held one_name other opened is loses stay (parent (changed s.tree (TakeName dir_ino name)) n))
+              (left_held (users_of tables) target_held one_name other opened is loses stay (parent (changed s.tree (TakeName dir_ino name)) n))
           go false goes =
-              let drops = left_drops processes target_held one_name other opened is loses goes in
-              drop_held s at.is_state at.up processes still p old.sectors at.holds at.same_room mid.sectors new.sectors dir_ino directory name n may.target takes may.there
+              let drops = left_drops (users_of tables) target_held one_name other opened is loses goes in
+              drop_held s at.is_state at.up (users_of tables) still p old.sectors at.holds at.same_room mid.sectors new.sectors dir_ino directory name n may.target takes may.there
               removes.touches.inode removes.names.used here drops.touches.inode goes drops.clear drops.free
 
 -- the name that was found may be removed
-pub may_remove : {p : Geometry} {old : TxnState} {processes : ProcessTable} (f : Found) {n : ℕ} (ready : MayPerform p old processes) → MayGo ready.state f.dir_ino f.name n → MayRemove p f old
+pub may_remove : {p : Geometry} {old : TxnState} {tables : Tables} (f : Found) {n : ℕ} (ready : MayPerform p old tables) → MayGo ready.state f.dir_ino f.name n → MayRemove p f old
 may_remove {old = old} f ready may = removable f ready (dir_below old ready.is_state may) (named_there old ready.is_state may)

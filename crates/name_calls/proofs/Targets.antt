@@ -42,7 +42,7 @@ unfolding row_of
 readlink_is path = refl
 
 pub readlink_by_path : {who : Who} → (path : List ℕ) → WalksPath who (Readlink path) (Ok tt) true NoFollow path readlink_demands readlink_effect
-readlink_by_path {who} path = record { arguments = []; row = readlink_is path; are_checked = refl; asks = refl; may = may_make who _ refl refl }
+readlink_by_path {who} path = record { arguments = []; row = readlink_is path; are_checked = refl; asks = refl; opens = refl; may = may_make who _ refl refl }
 
 -- ---- what it asks and answers
 

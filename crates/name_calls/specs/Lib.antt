@@ -1,6 +1,5 @@
 pub mod Dropping
 pub mod Entering
-pub mod Enters
 pub mod Linking
 pub mod Making
 pub mod Moving

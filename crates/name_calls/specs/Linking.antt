@@ -3,7 +3,7 @@
 --     place_asked        asked of a directory that gets a name
 --     MayLink        a name that it may get
 --     MayLinkAt        that which was found
-use Rattle.std.specs.Prelude.{◌≡◌, ℕ, ◌<◌, ◌≤◌, nat_le, not, ◌&&◌, List, [], ◌∷◌, length, None, Some, IsFalse}
+use Rattle.std.specs.Prelude.{◌≡◌, ℕ, ◌<◌, ◌≤◌, not, ◌&&◌, List, [], ◌∷◌, length, None, Some, IsFalse}
 use Rattle.fs_cred.specs.declared.errno.Errno.TheVariants.{EPERM, ENOTDIR}
 use Rattle.fs_cred.specs.Credentials.{Credential}
 use Rattle.fs_layout.specs.declared.geometry.Geometry.{Geometry}
@@ -18,7 +18,7 @@ use Rattle.fs_model.specs.Demands.{Demand, refuse, permission_on, write_and_sear
 use Rattle.fs_model.specs.Limits.{least_free}
 use Rattle.fs_model.specs.NameCalls.{link_count_demand}
 use Rattle.fs_model.specs.Nodes.{Node, is_directory, names_of_body}
-use Rattle.fs_model.specs.Scenes.{is_found, is_special, found_ino, must_be_there}
+use Rattle.fs_model.specs.Scenes.{is_found, found_ino, must_be_there}
 use Rattle.fs_model.specs.States.{State}
 use Rattle.fs_model.specs.Trees.{Tree, node_at, names_of, IsDirectoryAt}
 use Rattle.call_parts.specs.Makings.{room_asked}

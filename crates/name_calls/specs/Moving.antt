@@ -21,7 +21,7 @@ use Rattle.fs_model.specs.declared.touch.Touch.TheVariants.{Changed, Modified}
 use Rattle.fs_model.specs.declared.walk.Found.{Found}
 use Rattle.fs_model.specs.Limits.{least_free}
 use Rattle.fs_model.specs.Nodes.{names_of_body}
-use Rattle.fs_model.specs.Processes.{is_in_use}
+use Rattle.fs_model.specs.Processes.{users, is_in_use}
 use Rattle.fs_model.specs.States.{State}
 use Rattle.fs_model.specs.TreeChanges.{changed_at}
 use Rattle.fs_model.specs.Trees.{is_within, IsDirectoryAt}
@@ -43,7 +43,7 @@ pub record MayMove (p : Geometry) (map : SectorMap) (s : State) (dir_ino : ℕ) 
   pub has_room : replaced ≡ None → dir_ino ≢ to_dir_ino
       → (length (names_of_body to_directory.node.body) < max_names p.version) × (least_free ≤ free_sectors p map)
   pub empty : (m : ℕ) → replaced ≡ Some m → (d : IsDirectoryAt s.tree m) → names_of_body d.node.body ≡ []
-  pub unused : (m : ℕ) → replaced ≡ Some m → IsDirectoryAt s.tree m → IsFalse (is_in_use s.processes m)
+  pub unused : (m : ℕ) → replaced ≡ Some m → IsDirectoryAt s.tree m → IsFalse (is_in_use (users s.processes s.openings) m)
   pub outside : IsDirectoryAt s.tree n → is_within (length s.tree) s.tree n to_dir_ino ≡ false
 
 -- what the first name leads to, n, may get the second

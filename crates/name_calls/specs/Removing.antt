@@ -22,22 +22,23 @@ use Rattle.fs_model.specs.Births.{the_node, the_directory}
 use Rattle.fs_model.specs.Demands.{Demand, refuse, permission_on, allowed_by, write_and_search}
 use Rattle.fs_model.specs.Nodes.{Node, Body, is_directory, names_of_body}
 use Rattle.fs_model.specs.Parts.{is_empty}
-use Rattle.fs_model.specs.Processes.{Process, ProcessTable, is_in_use}
+use Rattle.fs_model.specs.Processes.{Process, users, is_in_use}
 use Rattle.fs_model.specs.Scenes.{Scene, is_found, is_special, is_directory_found, is_nondirectory_found, has_names, found_ino, ends_top, ends_dot, ends_dot_dot, must_be_there}
 use Rattle.fs_model.specs.States.{State}
 use Rattle.fs_model.specs.Trees.{Tree, node_at, IsDirectoryAt}
+use Rattle.call_parts.specs.BothTables.{Tables}
 use Rattle.call_parts.specs.Paths.{HasFound}
 use Rattle.call_parts.specs.Performing.{IsStateOf}
 use Rattle.call_parts.specs.Telling.{FoundThere}
 use Rattle.name_calls.specs.declared.removal.Target.{Target}
 use Rattle.name_calls.specs.declared.removal.Target.TheVariants.{NoDirectory, Directory}
 
--- in a state of this map and this table the process has found this, by a path that ends in a name
-pub record FindsName (p : Geometry) (map : SectorMap) (processes : ProcessTable) (q : Process) (f : Found) (s : State) : Type 0 where
+-- in a state of this map and these tables the process has found this, by a path that ends in a name
+pub record FindsName (p : Geometry) (map : SectorMap) (tables : Tables) (q : Process) (f : Found) (s : State) : Type 0 where
   pub who : Who
   pub path : List ℕ
   pub bytes : IsBytes path
-  pub is_state : IsStateOf p map processes s
+  pub is_state : IsStateOf p map tables s
   pub found : HasFound s who q false Parent path f
 
 -- the directory that names what was found is there, and so is what was found
@@ -74,7 +75,7 @@ abbrev pub target_asked : Target → Scene → List Demand
 target_asked NoDirectory s = refuse EISDIR (is_directory_found s s.first) ∷ []
 target_asked Directory s =
     refuse ENOTDIR (is_nondirectory_found s s.first)
-    ∷ refuse EBUSY (is_in_use s.state.processes (found_ino s.first))
+    ∷ refuse EBUSY (is_in_use (users s.state.processes s.state.openings) (found_ino s.first))
     ∷ refuse ENOTEMPTY (has_names s s.first)
     ∷ []
 
@@ -92,7 +93,7 @@ pub record MayGo (s : State) (dir_ino : ℕ) (name : List ℕ) (n : ℕ) : Type 
   pub target : Node
   pub there : node_at s.tree n ≡ Some target
   pub empty : IsTrue (is_directory target.body) → names_of_body target.body ≡ []
-  pub unused : IsTrue (is_directory target.body) → IsFalse (is_in_use s.processes n)
+  pub unused : IsTrue (is_directory target.body) → IsFalse (is_in_use (users s.processes s.openings) n)
 
 -- the name that was found may go
 abbrev pub MayGoAt : Found → ℕ → State → Type 0

@@ -24,6 +24,7 @@ use Rattle.fs_model.specs.Rules.{is_directory_kind}
 use Rattle.fs_model.specs.Scenes.{Scene, is_found, found_ino}
 use Rattle.fs_model.specs.States.{State}
 use Rattle.fs_model.specs.Trees.{Tree, is_within}
+use Rattle.call_parts.specs.BothTables.{Tables, tables_of}
 use Rattle.call_parts.specs.declared.reaching.Caller.{Caller}
 use Rattle.call_parts.specs.declared.reaching.WalkedBoth.{WalkedBoth}
 use Rattle.call_parts.specs.Performing.{IsStateOf}
@@ -31,9 +32,9 @@ use Rattle.name_calls.specs.Removing.{IsNamedThere}
 use Rattle.call_parts.specs.Asked.{sticky_asked}
 use Rattle.name_calls.specs.Renaming.{inode_there}
 
--- in a state of this map and this table both names are in directories: the old one leads to n, with inode v, the new one to what is replaced
-pub record IsToRename (p : Geometry) (map : SectorMap) (processes : ProcessTable) (f g : Found) (n : ℕ) (v : Inode) (replaced : Option (ℕ × Inode)) (s : State) : Type 0 where
-  pub is_state : IsStateOf p map processes s
+-- in a state of this map and these tables both names are in directories: the old one leads to n, with inode v, the new one to what is replaced
+pub record IsToRename (p : Geometry) (map : SectorMap) (tables : Tables) (f g : Found) (n : ℕ) (v : Inode) (replaced : Option (ℕ × Inode)) (s : State) : Type 0 where
+  pub is_state : IsStateOf p map tables s
   pub first : IsNamedThere s.tree f
   pub second : IsNamedThere s.tree g
   pub leads : f.ino ≡ Some n
@@ -41,7 +42,7 @@ pub record IsToRename (p : Geometry) (map : SectorMap) (processes : ProcessTable
   pub replaced_is : replaced ≡ inode_there p map g.ino
 
 abbrev pub Renames : Caller → SectorMap → WalkedBoth → ℕ → Inode → Option (ℕ × Inode) → State → Type 0
-Renames c map w n v replaced s = IsToRename c.geometry map c.procs.now w.first w.second n v replaced s
+Renames c map w n v replaced s = IsToRename c.geometry map (tables_of c) w.first w.second n v replaced s
 
 abbrev pub AreRenamed : Caller → SectorMap → WalkedBoth → State → Type 0
 AreRenamed c map w s = (n : ℕ) × (v : Inode) × (there : Option (ℕ × Inode)) × Renames c map w n v there s

@@ -2,15 +2,15 @@
 
 ghost use Rattle.std.specs.Prelude.{◌≡◌};
 ghost use Rattle.fs_model.specs.Processes.{is_open};
+ghost use Rattle.call_parts.specs.BothTables.{tables_of, users_of};
 ghost use Rattle.call_parts.specs.Altering.{AltersTransaction};
 ghost use Rattle.call_parts.specs.Dropping.{RemovesName};
 ghost use Rattle.name_calls.specs.Dropping.{MayRemove, MayLoseName, LosesName, stays_with};
 
-use call_parts::{drop_node, remove_name, set_names};
+use call_parts::{Caller, drop_node, remove_name, set_names};
 use fs_cred::Refusal;
 use fs_layout::{Geometry, Inode, Kind};
 use fs_model::Found;
-use open_files::Procs;
 use sector_txn::Sectors;
 
 /// Removes the name that was found from its directory. EIO: the disk has failed.
@@ -27,26 +27,27 @@ pub(crate) fn remove_found<S: Sectors>(
 }
 
 // Whether inode `ino`, of this kind and with so many names left, stays.
-fn stays(procs: &Procs, ino: u32, kind: Kind, names: u32) -> bool
-    ensures { result ≡ stays_with kind names (is_open procs.now ino) }
+fn stays(caller: &Caller, ino: u32, kind: Kind, names: u32) -> bool
+    ensures { result ≡ stays_with kind names (is_open (users_of (tables_of caller.now)) ino) }
 {
-    names != 0 || kind == Kind::File && procs.is_open(ino)
+    names != 0 || kind == Kind::File && caller.is_open(ino)
 }
 
 /// Takes one name from the count of inode `ino`; where that was its last, and it is no file that is open, it is
 /// dropped. EIO: the disk has failed.
 pub(crate) fn lose_name<S: Sectors>(
     s: &mut S,
-    geometry: Geometry,
-    procs: &Procs,
+    caller: &Caller,
     ino: u32,
     inode: &Inode,
 ) -> Result<(), Refusal>
-    requires { MayLoseName geometry (S.state s.old) ino inode.now }
-    ensures { AltersTransaction (LosesName geometry ino (is_open procs.now ino)) (S.state s.old) (S.state s.new) result }
+    requires { MayLoseName caller.now.geometry (S.state s.old) ino inode.now }
+    ensures { AltersTransaction (LosesName caller.now.geometry ino (is_open (users_of (tables_of caller.now)) ino))
+        (S.state s.old) (S.state s.new) result }
 {
     let names = inode.names - 1;
-    let stays = stays(procs, ino, inode.kind, names);
+    let geometry = caller.geometry;
+    let stays = stays(caller, ino, inode.kind, names);
     if !stays {
         drop_node(s, geometry, ino)?;
         return Ok(());

@@ -6,7 +6,6 @@ ghost use Rattle.fs_layout.specs.Maps.{get};
 ghost use Rattle.fs_layout.specs.Images.{inode_at};
 ghost use Rattle.sector_txn.specs.Sectors.{IsUnchanged};
 ghost use Rattle.fs_model.specs.declared.reply.Reply.TheVariants.{Done};
-ghost use Rattle.fs_model.specs.Processes.{ProcessTable, standing_at};
 ghost use Rattle.open_files.specs.Tables.{with_changed};
 ghost use Rattle.fs_model.specs.Births.{born_directory, the_node, born_link};
 ghost use Rattle.fs_model.specs.Demands.{first_of, refuse};
@@ -14,8 +13,9 @@ ghost use Rattle.fs_model.specs.Scenes.{found_ino, must_be_new};
 ghost use Rattle.fs_model.specs.Trees.{Tree, IsTarget, IsDirectoryAt};
 ghost use Rattle.path_walk.specs.Answers.{refused_or};
 ghost use Rattle.fs_model.specs.declared.call.Call.TheVariants.{Mkdir, Chdir, Symlink, Readlink, Link};
+ghost use Rattle.call_parts.specs.BothTables.{Tables, both, tables_of};
 ghost use Rattle.call_parts.specs.Performing.{MayPerform, Performs, IsReadyFor, PerformsBy, PerformsFor};
-ghost use Rattle.call_parts.specs.Callers.{ByProcess};
+ghost use Rattle.call_parts.specs.Callers.{ByProcess, ByCaller};
 ghost use Rattle.call_parts.specs.Makings.{CanMake};
 ghost use Rattle.call_parts.specs.Altering.{MayAlter, AltersDisk, HoldsChange};
 ghost use Rattle.name_calls.specs.Entering.{enter_asked};
@@ -33,7 +33,7 @@ ghost use Rattle.name_calls.specs.Walking.{WalksTo};
 
 use block_map::new_link;
 use call_parts::{
-    Asker, By, CallResult, Caller, Walked, WalkedBoth, ask_directory, ask_for_name,
+    By, CallResult, Caller, Site, Walked, WalkedBoth, ask_directory, ask_for_name,
     check_is_directory, check_make, check_mode, check_slash, default_of, inherited, inode_found,
     is_new, name_inode, new_group, reach, set_names, touch, walk_both, walk_path,
 };
@@ -41,7 +41,7 @@ use fs_cred::{Cred, Errno, Refusal};
 use fs_layout::{Geometry, Inode, Kind, MAX_LINK_SIZE, S_ISGID, S_ISVTX};
 use fs_model::{Form, Found, Path, Reply, Touch};
 use inode_table::new_inode;
-use open_files::{Judged, Procs};
+use open_files::{Judged, Openings, Procs};
 use path_walk::{read_target, search};
 use posix_acl::Acl;
 use sector_txn::Sectors;
@@ -156,7 +156,7 @@ pub fn mkdir<S: Sectors>(s: &mut S, caller: &Caller, path: &Path, mode: u16) -> 
     let ino = make_directory(s, caller, &walked, mode)?;
     let touches = [(walked.found.dir_ino, Touch::Modified), (ino, Touch::Born)];
     touch(s, caller.geometry, caller.time, &touches)?;
-    Ok(Reply::Done)
+    Ok(caller.made(ino))
 }
 
 // The directory that was found, which the caller may search. ENOENT: nothing was. ENOTDIR: it is none.
@@ -196,10 +196,10 @@ fn directory_at<S: Sectors>(
     requires runs { caller.now.by ≡ By.Process pid }
     ensures refused { IfErr result (λ e. PerformsBy caller.now (ByProcess pid) (Chdir path.now) (S.state s.old) (S.state s.new) (Err e)) }
     ensures there { IfOk result (λ n. IsSome (get nat_cmp caller.now.procs.now pid)) }
-    ensures entered { IfOk result (λ n. (now : ProcessTable)
-        → now ≡ with_changed caller.now.procs.now pid (standing_at n n)
-        → Performs caller.now.geometry caller.now.time (ByProcess pid) (Chdir path.now) (S.state s.old) (S.state s.new)
-        caller.now.procs.now now (Ok Done)) }
+    ensures entered { IfOk result (λ n. (now : Tables)
+        → now ≡ both (with_changed caller.now.procs.now pid (λ p. record p { cwd = n })) caller.now.openings.now.0
+        → Performs caller.now.geometry caller.now.time (ByCaller (ByProcess pid) (Chdir path.now)) (S.state s.old) (S.state s.new)
+        (tables_of caller.now) now (Ok Done)) }
     ensures same { IsUnchanged (S.state s.old) (S.state s.new) }
 {
     let walked = walk_path(s, caller, Ok(()), path, false, Form::Follow)?;
@@ -210,15 +210,22 @@ fn directory_at<S: Sectors>(
 
 /// Makes what a path leads to the current directory of the process, in which all its paths start. ENOENT: the path leads to
 /// nothing. ENOTDIR: it leads to what is no directory.
-pub fn chdir<S: Sectors>(s: &mut S, asker: Asker, procs: &mut Procs, path: &Path) -> CallResult
-    requires ready { MayPerform asker.geometry (S.state s.old) procs.old }
-    ensures performs { Performs asker.geometry asker.time (ByProcess asker.pid) (Chdir path.now)
-        (S.state s.old) (S.state s.new) procs.old procs.new result }
+pub fn chdir<S: Sectors>(
+    s: &mut S,
+    site: Site,
+    procs: &mut Procs,
+    openings: &mut Openings,
+    pid: usize,
+    path: &Path,
+) -> CallResult
+    requires ready { MayPerform site.geometry (S.state s.old) (both procs.old openings.old.0) }
+    ensures performs { Performs site.geometry site.time (ByCaller (ByProcess pid) (Chdir path.now)) (S.state s.old) (S.state s.new)
+        (both procs.old openings.old.0) (both procs.new openings.new.0) result }
     ensures same { IsUnchanged (S.state s.old) (S.state s.new) }
 {
-    let caller = asker.caller(procs);
-    let ino = directory_at(s, &caller, asker.pid, path)?;
-    procs.stand_at(asker.pid, ino, ino);
+    let caller = site.caller(procs, openings, By::Process(pid));
+    let ino = directory_at(s, &caller, pid, path)?;
+    procs.stand_at(pid, ino);
     Ok(Reply::Done)
 }
 
@@ -313,7 +320,7 @@ pub fn symlink<S: Sectors>(s: &mut S, caller: &Caller, target: &Path, path: &Pat
     let ino = make_link(s, caller, &walked, target)?;
     let touches = [(walked.found.dir_ino, Touch::Modified), (ino, Touch::Born)];
     touch(s, caller.geometry, caller.time, &touches)?;
-    Ok(Reply::Done)
+    Ok(caller.made(ino))
 }
 
 // Asks whether an inode is that of a symbolic link.
@@ -442,7 +449,7 @@ fn add_name<S: Sectors>(
     requires directory { directory ≡ inode_at caller.now.geometry (S.state s.old).sectors found.now.dir_ino }
     requires may { (ready : IsReadyFor caller.now (S.state s.old))
         × MayLinkAt caller.now.geometry (S.state s.old).sectors found.now ino ready.state }
-    ensures { AltersDisk caller.now.geometry 5 (λ done. HoldsChange caller.now.geometry caller.now.procs.now
+    ensures { AltersDisk caller.now.geometry 5 (λ done. HoldsChange caller.now.geometry (tables_of caller.now)
         (MayLinkAt caller.now.geometry (S.state s.old).sectors found.now ino) (AddName found.now.dir_ino found.now.name ino))
         (S.state s.old) (S.state s.new) result }
 {

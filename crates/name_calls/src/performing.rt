@@ -1,6 +1,7 @@
 //! The calls on names, handed to their functions.
 
-ghost use Rattle.call_parts.specs.Callers.{ByProcess};
+ghost use Rattle.call_parts.specs.BothTables.{both};
+ghost use Rattle.call_parts.specs.Callers.{ByProcess, ByCaller};
 ghost use Rattle.fs_model.specs.Actors.{is_actor_call};
 ghost use Rattle.std.specs.Prelude.{◌≡◌, MatchOption, IsFalse, ◌&&◌, not};
 ghost use Rattle.call_parts.specs.Performing.{MayPerform, Performs, IsReadyFor, PerformsFor, is_on_names};
@@ -8,9 +9,9 @@ ghost use Rattle.call_parts.specs.Performing.{MayPerform, Performs, IsReadyFor, 
 use crate::making::{chdir, link, mkdir, readlink, symlink};
 use crate::removal::{rmdir, unlink};
 use crate::renaming::rename;
-use call_parts::{Asker, CallResult, Caller};
+use call_parts::{CallResult, Caller, Site};
 use fs_model::Call;
-use open_files::Procs;
+use open_files::{Openings, Procs};
 use sector_txn::Sectors;
 
 /// Performs a call on names, at this time. `None`: it is none, or one that no actor makes, and nothing is done.
@@ -34,16 +35,19 @@ pub fn perform<S: Sectors>(s: &mut S, caller: &Caller, call: &Call) -> Option<Ca
 /// Performs a call on names that processes alone make, at this time. `None`: it is none.
 pub fn perform_for_process<S: Sectors>(
     s: &mut S,
-    asker: Asker,
+    site: Site,
     procs: &mut Procs,
+    openings: &mut Openings,
+    pid: usize,
     call: &Call,
 ) -> Option<CallResult>
-    requires ready { MayPerform asker.geometry (S.state s.old) procs.old }
+    requires ready { MayPerform site.geometry (S.state s.old) (both procs.old openings.old.0) }
     ensures { MatchOption result (IsFalse (is_on_names call.now && not (is_actor_call call.now)))
-        (λ r. Performs asker.geometry asker.time (ByProcess asker.pid) call.now (S.state s.old) (S.state s.new) procs.old procs.new r) }
+        (λ r. Performs site.geometry site.time (ByCaller (ByProcess pid) call.now) (S.state s.old) (S.state s.new)
+        (both procs.old openings.old.0) (both procs.new openings.new.0) r) }
 {
     match call {
-        Call::Chdir(path) => Some(chdir(s, asker, procs, path)),
+        Call::Chdir(path) => Some(chdir(s, site, procs, openings, pid, path)),
         _ => None,
     }
 }

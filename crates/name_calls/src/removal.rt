@@ -12,6 +12,7 @@ ghost use Rattle.fs_model.specs.StoredNodes.{HoldsBody};
 ghost use Rattle.path_walk.specs.Answers.{refused_or};
 ghost use Rattle.fs_layout.specs.declared.version.Version.{Version};
 ghost use Rattle.fs_model.specs.declared.call.Call.TheVariants.{Unlink, Rmdir};
+ghost use Rattle.call_parts.specs.BothTables.{tables_of, users_of};
 ghost use Rattle.call_parts.specs.Paths.{scene_at};
 ghost use Rattle.call_parts.specs.Performing.{IsReadyFor, PerformsFor};
 ghost use Rattle.name_calls.specs.declared.removal.Target.TheVariants.{NoDirectory, Directory};
@@ -27,9 +28,8 @@ use call_parts::{
 };
 use dir_core::is_empty;
 use fs_cred::{Errno, Refusal};
-use fs_layout::{Geometry, Inode, Kind};
+use fs_layout::{Inode, Kind};
 use fs_model::{Form, Found, Last, Path, Reply, Touch};
-use open_files::Procs;
 use sector_txn::Sectors;
 
 /// What a call removes.
@@ -93,14 +93,14 @@ fn check_removal<S: Sectors>(
 }
 
 /// Asks whether what is to go is an empty directory that isn't in use.
-pub(crate) fn check_directory(procs: &Procs, ino: u32, inode: &Inode) -> Result<(), Refusal>
+pub(crate) fn check_directory(caller: &Caller, ino: u32, inode: &Inode) -> Result<(), Refusal>
     ensures { (version : Version) (image : SectorMap) (b : Body) → HoldsBody version image inode.now b
-        → result ≡ checked (first_of (directory_asked b (is_in_use procs.now ino))) }
+        → result ≡ checked (first_of (directory_asked b (is_in_use (users_of (tables_of caller.now)) ino))) }
 {
     if inode.kind != Kind::Directory {
         return Err(Refusal::Failed(Errno::ENOTDIR));
     }
-    if procs.in_use(ino) {
+    if caller.is_in_use(ino) {
         return Err(Refusal::Failed(Errno::EBUSY));
     }
     if !is_empty(inode) {
@@ -110,13 +110,13 @@ pub(crate) fn check_directory(procs: &Procs, ino: u32, inode: &Inode) -> Result<
 }
 
 // Asks whether what is to go is what the call removes.
-fn check_kind(procs: &Procs, ino: u32, inode: &Inode, what: Target) -> Result<(), Refusal>
+fn check_kind(caller: &Caller, ino: u32, inode: &Inode, what: Target) -> Result<(), Refusal>
     ensures { (version : Version) (image : SectorMap) (b : Body) → HoldsBody version image inode.now b
-        → result ≡ checked (first_of (kind_asked what b (is_in_use procs.now ino))) }
+        → result ≡ checked (first_of (kind_asked what b (is_in_use (users_of (tables_of caller.now)) ino))) }
 {
     match what {
         Target::NoDirectory => check_no_directory(inode.kind),
-        Target::Directory => check_directory(procs, ino, inode),
+        Target::Directory => check_directory(caller, ino, inode),
     }
 }
 
@@ -127,9 +127,9 @@ fn check_target<S: Sectors>(
     walked: &Walked,
     what: Target,
 ) -> Result<(u32, Inode), Refusal>
-    requires { HasState caller.now.geometry (S.state s.old) (FindsName caller.now.geometry (S.state s.old).sectors caller.now.procs.now
+    requires { HasState caller.now.geometry (S.state s.old) (FindsName caller.now.geometry (S.state s.old).sectors (tables_of caller.now)
         walked.now.process walked.now.found) }
-    ensures { TellsOf (FindsName caller.now.geometry (S.state s.old).sectors caller.now.procs.now
+    ensures { TellsOf (FindsName caller.now.geometry (S.state s.old).sectors (tables_of caller.now)
         walked.now.process walked.now.found)
         (λ st. refused_or (first_of (removal_demands what (scene_at st walked.now.process walked.now.found)))
         (Ok (found_ino walked.now.found, inode_at caller.now.geometry (S.state s.old).sectors (found_ino walked.now.found))))
@@ -137,7 +137,7 @@ fn check_target<S: Sectors>(
 {
     check_last(&walked.found, what)?;
     let (ino, inode) = check_removal(s, caller, walked)?;
-    check_kind(caller.procs, ino, &inode, what)?;
+    check_kind(caller, ino, &inode, what)?;
     Ok((ino, inode))
 }
 
@@ -152,11 +152,11 @@ fn take_name<S: Sectors>(
 ) -> Result<(), Refusal>
     requires inode { inode.now ≡ inode_at caller.now.geometry (S.state s.old).sectors ino }
     requires may { (ready : IsReadyFor caller.now (S.state s.old)) × MayGoAt found.now ino ready.state }
-    ensures { AltersDisk caller.now.geometry 6 (λ done. HoldsChange caller.now.geometry caller.now.procs.now
+    ensures { AltersDisk caller.now.geometry 6 (λ done. HoldsChange caller.now.geometry (tables_of caller.now)
         (MayGoAt found.now ino) (TakeName found.now.dir_ino found.now.name)) (S.state s.old) (S.state s.new) result }
 {
     remove_found(s, caller.geometry, found)?;
-    lose_name(s, caller.geometry, caller.procs, ino, inode)?;
+    lose_name(s, caller, ino, inode)?;
     Ok(())
 }
 
@@ -204,8 +204,8 @@ pub fn unlink<S: Sectors>(s: &mut S, caller: &Caller, path: &Path) -> CallResult
 
 /// Removes the directory that a path leads to, with its name.
 ///
-/// In a directory with S_ISVTX only the owner of one of both may. EBUSY: it is the root, or a process stands in it or has it
-/// open. EINVAL: the path ends in `.`. ENOTEMPTY: it ends in `..`, or the directory has names. ENOENT: it leads to nothing.
+/// In a directory with S_ISVTX only the owner of one of both may. EBUSY: it is the root, or a process stands in it, or somebody has
+/// it open. EINVAL: the path ends in `.`. ENOTEMPTY: it ends in `..`, or the directory has names. ENOENT: it leads to nothing.
 /// ENOTDIR: it leads to no directory.
 pub fn rmdir<S: Sectors>(s: &mut S, caller: &Caller, path: &Path) -> CallResult
     requires ready { IsReadyFor caller.now (S.state s.old) }

@@ -8,6 +8,7 @@ ghost use Rattle.fs_model.specs.RenameCall.{rename_demands, rename_permissions, 
 ghost use Rattle.fs_model.specs.Scenes.{found_ino, ends_top, ends_dot, ends_dot_dot};
 ghost use Rattle.path_walk.specs.Answers.{refused_or, FailsToRead};
 ghost use Rattle.fs_model.specs.declared.call.Call.TheVariants.{Rename};
+ghost use Rattle.call_parts.specs.BothTables.{tables_of, users_of};
 ghost use Rattle.call_parts.specs.Performing.{IsReadyFor, PerformsFor};
 ghost use Rattle.name_calls.specs.Renaming.{BothThere, ends_asked, names_asked, inode_there, other_kind, directory_kind, slash_told, replacing_asked};
 ghost use Rattle.name_calls.specs.Replacing.{same_number, Renames, AreRenamed, sticky_there, below_asked, replaced_asked, move_asked};
@@ -36,7 +37,7 @@ use fs_cred::{Errno, Refusal};
 use fs_layout::{Geometry, Inode, Kind, ROOT};
 use fs_model::{Found, Last, Path, Reply, Touch};
 use inode_table::save;
-use open_files::{Judged, Procs};
+use open_files::Judged;
 use path_walk::load_inode;
 use posix_acl::Perms;
 use sector_txn::Sectors;
@@ -305,10 +306,10 @@ fn check_below<S: Sectors>(
 }
 
 // Asks whether what is replaced may go: a directory is empty and not in use.
-fn check_replaced(procs: &Procs, replaced: &Option<(u32, Inode)>) -> Result<(), Refusal>
+fn check_replaced(caller: &Caller, replaced: &Option<(u32, Inode)>) -> Result<(), Refusal>
     ensures { (p : Geometry) (map : SectorMap) (t : Tree) (g : Found) → HoldsTree p map t → FoundThere g t
         → replaced.now ≡ inode_there p map g.ino
-        → result ≡ checked (first_of (replaced_asked t procs.now g)) }
+        → result ≡ checked (first_of (replaced_asked t (users_of (tables_of caller.now)) g)) }
 {
     let Some((ino, inode)) = replaced else {
         return Ok(());
@@ -316,7 +317,7 @@ fn check_replaced(procs: &Procs, replaced: &Option<(u32, Inode)>) -> Result<(), 
     if inode.kind != Kind::Directory {
         return Ok(());
     }
-    check_directory(procs, *ino, inode)?;
+    check_directory(caller, *ino, inode)?;
     Ok(())
 }
 
@@ -386,7 +387,7 @@ fn check_move<S: Sectors>(
     let to_directory = check_permissions(s, caller, walked, inode, replaced)?;
     check_kinds(inode.kind, replaced)?;
     check_below(s, caller.geometry, ino, inode.kind, walked.second.dir_ino)?;
-    check_replaced(caller.procs, replaced)?;
+    check_replaced(caller, replaced)?;
     check_moved(s, caller, walked, inode)?;
     check_space(s, caller, walked, &to_directory)?;
     Ok(())
@@ -505,7 +506,7 @@ fn move_name<S: Sectors>(
     requires replaced { replaced.now ≡ inode_there caller.now.geometry (S.state s.old).sectors walked.now.second.ino }
     requires may { (ready : IsReadyFor caller.now (S.state s.old))
         × MayMoveTo caller.now.geometry (S.state s.old).sectors walked.now.first walked.now.second ino ready.state }
-    ensures { AltersDisk caller.now.geometry 11 (λ done. HoldsChange caller.now.geometry caller.now.procs.now
+    ensures { AltersDisk caller.now.geometry 11 (λ done. HoldsChange caller.now.geometry (tables_of caller.now)
         (MayMoveTo caller.now.geometry (S.state s.old).sectors walked.now.first walked.now.second ino)
         (MoveName walked.now.first.dir_ino walked.now.first.name walked.now.second.dir_ino walked.now.second.name))
         (S.state s.old) (S.state s.new) result }
@@ -522,7 +523,7 @@ fn move_name<S: Sectors>(
         second.dir_ino,
     )?;
     if let Some((m, inode)) = replaced {
-        lose_name(s, caller.geometry, caller.procs, *m, inode)?;
+        lose_name(s, caller, *m, inode)?;
     }
     Ok(())
 }

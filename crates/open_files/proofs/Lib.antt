@@ -1,3 +1,4 @@
 pub mod Numbered
 pub mod OpenSlots
 pub mod Slots
+pub mod Handled

@@ -11,7 +11,7 @@ use Rattle.slab.proofs.SlabLemmas.{length-entries_from}
 use Rattle.fs_layout.specs.Maps.{get, with_entry, without, IsMap}
 use Rattle.fs_layout.proofs.MapLaws.{with_entry-IsMap, length-with_entry}
 use Rattle.fs_model.specs.Limits.{processes_limit}
-use Rattle.fs_model.specs.Processes.{Descriptor, Process, ProcessTable, descriptor, is_open, starts_at}
+use Rattle.fs_model.specs.Processes.{Descriptor, Process, ProcessTable, descriptor, is_open}
 use Rattle.fs_model.proofs.StepsFit.{length-replaced}
 use Rattle.fs_model.proofs.StepsProcesses.{without-IsMap, in_without, in_with_entry, length-without}
 use Rattle.open_files.specs.Tables.{answer_of_found, answer_of, open_at, open_in, IsKeptProcess, IsTable, with_changed, changed_where}
@@ -118,8 +118,8 @@ pub open_by_some : (slots : List (Option Process)) (ino : ℕ)
 open_by_some slots ino = any_value (has_open ino) 0 1 slots
 
 pub current_of_some : (slots : List (Option Process)) (ino : ℕ)
-    → list_any (λ (e : ℕ × Process). starts_at ino e.1) (entries_from 0 slots) ≡ list_any (λ (e : ℕ × Process). starts_at ino e.1) (entries_from 1 slots)
-current_of_some slots ino = any_value (starts_at ino) 0 1 slots
+    → list_any (λ (e : ℕ × Process). e.1.cwd == ino) (entries_from 0 slots) ≡ list_any (λ (e : ℕ × Process). e.1.cwd == ino) (entries_from 1 slots)
+current_of_some slots ino = any_value (λ (p : Process). p.cwd == ino) 0 1 slots
 
 pub open_by_others : (slots : List (Option Process)) (pid ino : ℕ) → pid ≢ 0
     → list_any (λ (e : ℕ × Process). not (e.0 == pid - 1) && has_open ino e.1) (entries_from 0 slots)

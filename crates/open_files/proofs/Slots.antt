@@ -154,6 +154,23 @@ module _ {X : Type 0} where
         | inr ne ↦ kept_other n q (get nat_cmp m q) ne
       ]
 
+  -- what went is put back
+  pub put_back : (m : List (ℕ × X)) (n : ℕ) (x : X) → IsMap nat_cmp m → get nat_cmp m n ≡ Some x → with_entry nat_cmp (without nat_cmp m n) n x ≡ m
+  put_back m n x h there =
+      same_map (with_entry nat_cmp (without nat_cmp m n) n x) m (with_entry-IsMap (without nat_cmp m n) n x (without-IsMap m n h)) h
+      (λ q. get-with_entry (without nat_cmp m n) n x q ∙ at q)
+    where
+      at : (q : ℕ) → cond (eq_by_cmp nat_cmp q n) (Some x) (get nat_cmp (without nat_cmp m n) q) ≡ get nat_cmp m q
+      at q = elim (cases_eq q n) [
+        | inl e ↦ ap (λ b. cond b (Some x) (get nat_cmp (without nat_cmp m n) q)) (ties q n e) ∙ sym (ap (get nat_cmp m) e ∙ there)
+        | inr ne ↦
+            ap (λ b. cond b (Some x) (get nat_cmp (without nat_cmp m n) q)) (apart q n ne)
+            ∙ get-without m n q h ∙ kept_other n q (get nat_cmp m q) ne
+      ]
+
+  pub gone_there : (m : List (ℕ × X)) (n : ℕ) → IsMap nat_cmp m → get nat_cmp (without nat_cmp m n) n ≡ None
+  gone_there m n h = get-without m n n h ∙ kept_here n n (get nat_cmp m n) refl
+
   -- ---- the least unused number
 
   least_above : (k j : ℕ) (slots : List (Option X)) → k < j → least_unused k (entries_from j slots) ≡ k

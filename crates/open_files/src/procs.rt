@@ -8,7 +8,7 @@ ghost use Rattle.slab.specs.Slab.{entries_from};
 ghost use Rattle.fs_layout.specs.Maps.{get, with_entry, without};
 ghost use Rattle.fs_model.specs.Limits.{descriptors_limit, processes_limit};
 ghost use Rattle.open_files.specs.Tables.{AreDescriptors, lowest, answer_of, open_in, slot_in, IsUnused, with_changed, without_descriptor, IsTable};
-ghost use Rattle.fs_model.specs.Processes.{new_process, IsNewPid, standing_at, starts_at, descriptor, with_descriptor, with_offset, is_open, is_in_use};
+ghost use Rattle.fs_model.specs.Processes.{new_process, IsNewPid, descriptor, with_descriptor, with_offset, is_open, is_in_use};
 ghost use Rattle.fs_cred.specs.Credentials.{IsCredential};
 ghost use Rattle.fs_model.specs.Actors.{judged_as};
 ghost use Rattle.fs_cred.specs.declared.errno.Errno.TheVariants.{ESRCH, EAGAIN, ENOMEM};
@@ -168,7 +168,6 @@ pub struct Process {
     cred: Cred,
     umask: u16,
     cwd: u32,
-    second_cwd: u32,
     descriptors: Descriptors,
 }
 
@@ -179,9 +178,9 @@ impl Model for Process {
 
     ghost use Rattle.open_files.specs.Tables.{IsKeptProcess};
 
-    ghost view = { λ p. record { cred = p.cred; umask = p.umask; cwd = p.cwd; second_cwd = p.second_cwd; descriptors = p.descriptors } };
+    ghost view = { λ p. record { cred = p.cred; umask = p.umask; cwd = p.cwd; descriptors = p.descriptors } };
 
-    ghost invariant = { λ p. IsKeptProcess (record { cred = p.cred; umask = p.umask; cwd = p.cwd; second_cwd = p.second_cwd; descriptors = p.descriptors }) };
+    ghost invariant = { λ p. IsKeptProcess (record { cred = p.cred; umask = p.umask; cwd = p.cwd; descriptors = p.descriptors }) };
 }
 
 impl Process {
@@ -196,7 +195,6 @@ impl Process {
             cred,
             umask: NEW_UMASK,
             cwd: ROOT,
-            second_cwd: ROOT,
             descriptors: Descriptors::new(),
         }
     }
@@ -222,13 +220,6 @@ impl Process {
         self.cwd
     }
 
-    /// The inode of the directory in which the second path of rename and link starts.
-    pub fn second_cwd(&self) -> u32
-        ensures { result ≡ self.now.second_cwd }
-    {
-        self.second_cwd
-    }
-
     // Sets the umask, and answers the old one.
     pub(crate) fn set_umask(&mut self, mask: u16) -> u16
         ensures old { result ≡ self.old.umask }
@@ -240,12 +231,11 @@ impl Process {
         old
     }
 
-    pub(crate) fn stand_at(&mut self, dir_ino: u32, second_ino: u32)
-        ensures set { self.new ≡ standing_at dir_ino second_ino self.old }
+    pub(crate) fn stand_at(&mut self, dir_ino: u32)
+        ensures set { self.new ≡ record self.old { cwd = dir_ino } }
         ensures kept { IsKeptProcess self.new }
     {
         self.cwd = dir_ino;
-        self.second_cwd = second_ino;
     }
 
     // The lowest unused descriptor; `None` where all are used.
@@ -292,13 +282,6 @@ impl Process {
         ensures kept { IsKeptProcess self.new }
     {
         self.descriptors.remove(fd);
-    }
-
-    // Whether a walk of the process starts at an inode.
-    pub(crate) fn starts_at(&self, ino: u32) -> bool
-        ensures { result ≡ starts_at ino self.now }
-    {
-        self.cwd == ino || self.second_cwd == ino
     }
 
     // Whether the process has an inode open.
@@ -392,16 +375,6 @@ impl<'a> Judged<'a> {
             Held::Actor(_) => ROOT,
         }
     }
-
-    /// The inode of the directory in which the second path of rename and link starts.
-    pub fn second_cwd(&self) -> u32
-        ensures { result ≡ self.now.second_cwd }
-    {
-        match self.held {
-            Held::Process(process) => process.second_cwd(),
-            Held::Actor(_) => ROOT,
-        }
-    }
 }
 
 /// The most processes.
@@ -481,6 +454,13 @@ impl Procs {
         Ok(())
     }
 
+    /// Does nothing: its clause tells a caller's proof what is true of each table.
+    pub fn tell_table(&self)
+        ensures table { IsTable self.now }
+    {
+        let _slab = &self.slab;
+    }
+
     // The process of this number.
     fn find(&self, pid: usize) -> Option<&Process>
         ensures found { option_copied result ≡ get nat_cmp self.now pid }
@@ -514,15 +494,15 @@ impl Procs {
         Ok(process.set_umask(mask))
     }
 
-    /// A process that is there stands in a directory from now on, and the second path of its rename and link starts at another.
-    pub fn stand_at(&mut self, pid: usize, dir_ino: u32, second_ino: u32)
+    /// A process that is there stands in a directory from now on.
+    pub fn stand_at(&mut self, pid: usize, dir_ino: u32)
         requires found { IsSome (get nat_cmp self.old pid) }
-        ensures set { self.new ≡ with_changed self.old pid (standing_at dir_ino second_ino) }
+        ensures set { self.new ≡ with_changed self.old pid (λ p. record p { cwd = dir_ino }) }
     {
         let Some(process) = self.slab.get_mut(pid - 1) else {
             return;
         };
-        process.stand_at(dir_ino, second_ino);
+        process.stand_at(dir_ino);
     }
 
     /// The lowest unused descriptor of a process, which its next open gets. `ESRCH`: there is no such process. `EMFILE`: all
@@ -616,19 +596,19 @@ impl Procs {
         process.has_open_besides(fd, ino) || self.is_open_by_others(pid, ino)
     }
 
-    // Whether a walk of a process starts at an inode.
+    // Whether an inode is the current directory of a process.
     fn is_current(&self, ino: u32) -> bool
-        ensures { result ≡ list_any (λ p. starts_at ino p.1) self.now }
+        ensures { result ≡ list_any (λ p. p.1.cwd == ino) self.now }
     {
         for (_, process) in self.slab.iter() {
-            if process.starts_at(ino) {
+            if process.cwd() == ino {
                 return true;
             }
         }
         false
     }
 
-    /// Whether a directory is in use: it is the root, where walks of a process start, or open.
+    /// Whether a directory is in use: it is the root, the current one of a process, or open.
     pub fn in_use(&self, ino: u32) -> bool
         ensures { result ≡ is_in_use self.now ino }
     {

@@ -2,6 +2,7 @@
 
 mod chance;
 mod changing;
+mod handles;
 mod leaving;
 mod playing;
 pub mod recording;

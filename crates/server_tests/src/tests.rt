@@ -1,8 +1,8 @@
 //! The tests by their subjects.
 
 mod cutting;
+mod directories;
 mod listings;
-mod processes;
 mod serving;
 mod sessions;
 mod state;

@@ -4,7 +4,7 @@
 use crate::mounts::{TestDisk, call_of, new_fs};
 use fs_cred::{Cred, Errno, Refusal};
 use fs_layout::Version;
-use fs_model::{Actor, Bytes, Call, Reply};
+use fs_model::{Actor, Bytes, Call, HandleCall, Reply};
 use fs_system::Fs;
 use sector_disk::Disk;
 use std::alloc::Global;
@@ -13,7 +13,7 @@ use std::test::Fail;
 
 // ---- what is answered
 
-// A number, 0 where none is told, or that of the errno.
+// A number, that of the errno, or how many bytes are told; 0 where nothing is.
 type Told = Result<usize, u8>;
 
 fn told(reply: &Reply) -> Told {
@@ -21,6 +21,9 @@ fn told(reply: &Reply) -> Told {
         Reply::Done => Ok(0),
         Reply::Fd(fd) => Ok(*fd),
         Reply::Wrote(count) => Ok(*count),
+        Reply::Opened { handle, .. } => Ok(*handle as usize),
+        Reply::Made(ino) => Ok(*ino as usize),
+        Reply::Data(bytes) => Ok(bytes.bytes().len()),
         Reply::Refused(Refusal::Failed(errno)) => Err(errno.number()),
         _ => Err(0),
     }
@@ -171,7 +174,7 @@ fn told_from(alloc: Global, asked: Asked) -> Result<Told, Fail> {
 }
 
 // As openat(2) has AT_EMPTY_PATH, fchmodat(2) a link and linkat(2) its two directories.
-static FROM_OBJECTS: [(Asked, Told); 14] = [
+static FROM_OBJECTS: [(Asked, Told); 17] = [
     ((1, 1, b"1 chmod file 0600"), Ok(0)),
     ((3, 1, b"1 chmod \"\" 0600"), Ok(0)),
     ((4, 1, b"1 chmod \"\" 0600"), Err(40)),
@@ -182,7 +185,10 @@ static FROM_OBJECTS: [(Asked, Told); 14] = [
     ((3, 2, b"1 link \"\" name"), Ok(0)),
     ((1, 2, b"1 rename file name"), Ok(0)),
     ((2, 1, b"1 rmdir \"\""), Err(16)),
-    ((1, 1, b"1 open file r"), Err(9)),
+    ((1, 1, b"1 open file r"), Ok(0)),
+    ((4, 1, b"1 open \"\" r"), Err(40)),
+    ((1, 1, b"1 mkdir name 0755"), Ok(5)),
+    ((2, 1, b"1 symlink file name"), Ok(5)),
     ((1, 1, b"1 chdir d"), Err(9)),
     ((1, 1, b"1 close 0"), Err(9)),
     ((1, 1, b"1 umask 0"), Err(9)),
@@ -197,49 +203,117 @@ fn an_actor_calls_from_objects(rt: HostRuntime) -> Result<(), Fail> {
     Ok(())
 }
 
-// What process 1 or another is answered that is put into these directories. The root is inode 1, and a file 2.
-fn put(alloc: Global, fs: &mut Fs<TestDisk>, row: (usize, u32, u32)) -> Result<Told, Fail> {
-    let _pid = spawned(alloc, fs)?;
-    let _fd = opened(alloc, fs)?;
-    Ok(told_done(fs.enter(row.0, row.1, row.2)))
+// ---- what is answered by a handle
+
+// What is told by this handle.
+fn told_by(fs: &mut Fs<TestDisk>, handle: u64, call: HandleCall) -> Told {
+    let reply = fs.call_by(handle, &call);
+    mem::drop(call);
+    let told = told(&reply);
+    reply.discard();
+    told
 }
 
-fn entered(alloc: Global, row: (usize, u32, u32)) -> Result<Told, Fail> {
+fn read_by(fs: &mut Fs<TestDisk>, handle: u64) -> Told {
+    told_by(fs, handle, HandleCall::Read { offset: 0, len: 4 })
+}
+
+// What is told of a write of so many bytes.
+fn written_by(alloc: Global, fs: &mut Fs<TestDisk>, handle: u64, len: usize) -> Result<Told, Fail> {
+    let bytes = Bytes::new(vec![in alloc; 1; len]?);
+    Ok(told_by(fs, handle, HandleCall::Write { offset: 0, bytes }))
+}
+
+fn closed_by(fs: &mut Fs<TestDisk>, handle: u64) -> Told {
+    told_by(fs, handle, HandleCall::Close)
+}
+
+// The handle of what an actor opens.
+fn handle_of(alloc: Global, fs: &mut Fs<TestDisk>, line: &'static [u8]) -> Result<u64, Fail> {
+    match called_at(alloc, fs, (1, 1, line))? {
+        Ok(handle) => Ok(handle as u64),
+        Err(_) => Err(Fail::new("no handle")),
+    }
+}
+
+// A file of three bytes, which process 1 has open.
+fn begun(alloc: Global, fs: &mut Fs<TestDisk>) -> Result<(), Fail> {
+    let _pid = spawned(alloc, fs)?;
+    let _fd = opened(alloc, fs)?;
+    let _count = written(alloc, fs)?;
+    Ok(())
+}
+
+// What a read by a handle is told, a write, a close, and another read.
+fn asked_by(alloc: Global, fs: &mut Fs<TestDisk>, line: &'static [u8]) -> Result<[Told; 4], Fail> {
+    begun(alloc, fs)?;
+    let handle = handle_of(alloc, fs, line)?;
+    let first = read_by(fs, handle);
+    let write = written_by(alloc, fs, handle, 3)?;
+    let close = closed_by(fs, handle);
+    Ok([first, write, close, read_by(fs, handle)])
+}
+
+fn told_by_handle(alloc: Global, line: &'static [u8]) -> Result<[Told; 4], Fail> {
     let mut fs = new_fs(alloc, Version::Two, u64::MAX)?;
-    let told = put(alloc, &mut fs, row);
+    let told = asked_by(alloc, &mut fs, line);
     mem::drop(fs.unmount());
     told
 }
 
-// Processes and directories, and what is answered.
-static DIRECTORIES: [((usize, u32, u32), Told); 6] = [
-    ((1, 1, 1), Ok(0)),
-    ((2, 64, 2), Err(3)),
-    ((1, 2, 64), Err(2)),
-    ((1, 0, 2), Err(2)),
-    ((1, 2, 1), Err(20)),
-    ((1, 1, 2), Err(20)),
+const EBADF: Told = Err(9);
+
+static BY_HANDLE: [(&'static [u8], [Told; 4]); 3] = [
+    (b"1 open file r", [Ok(3), EBADF, Ok(0), EBADF]),
+    (b"1 open file w", [EBADF, Ok(3), Ok(0), EBADF]),
+    (b"1 open file rw", [Ok(3), Ok(3), Ok(0), EBADF]),
 ];
 
 #[test]
-fn a_process_is_put_into_directories(rt: HostRuntime) -> Result<(), Fail> {
-    for &(row, wanted) in &DIRECTORIES {
-        let found = entered(rt.alloc(), row)?;
-        assert!(rt; found == wanted, "{row:?}: {found:?}");
+fn a_handle_is_for_what_it_was_opened_for(rt: HostRuntime) -> Result<(), Fail> {
+    for &(line, wanted) in &BY_HANDLE {
+        let found = told_by_handle(rt.alloc(), line)?;
+        assert!(rt; found == wanted, "{line:?}: {found:?}");
     }
     Ok(())
 }
 
-// What process 1 is told that writes so many bytes behind the others.
-fn appended(alloc: Global, fs: &mut Fs<TestDisk>, len: usize) -> Result<Told, Fail> {
-    let bytes = vec![in alloc; 1; len]?;
-    Ok(called(fs, Call::Write(0, Bytes::new(bytes))))
+// What is told where a handle is all that is left of a file: how many sectors are free, a read, its close, and how many are free
+// then.
+fn outlived(alloc: Global, fs: &mut Fs<TestDisk>) -> Result<[Told; 4], Fail> {
+    begun(alloc, fs)?;
+    let handle = handle_of(alloc, fs, b"1 open file r")?;
+    let _gone = called(fs, call_of(alloc, b"1 unlink /file")?);
+    let _end = told_done(fs.exit(1));
+    let held = told_space(fs.statfs());
+    let read = read_by(fs, handle);
+    let close = closed_by(fs, handle);
+    Ok([held, read, close, told_space(fs.statfs())])
 }
 
-// How many such writes are whole, and what the next one is told.
-fn filled(alloc: Global, fs: &mut Fs<TestDisk>, len: usize) -> Result<(usize, Told), Fail> {
+fn told_of_nameless(alloc: Global) -> Result<[Told; 4], Fail> {
+    let mut fs = new_fs(alloc, Version::Two, u64::MAX)?;
+    let told = outlived(alloc, &mut fs);
+    mem::drop(fs.unmount());
+    told
+}
+
+#[test]
+fn a_nameless_file_stays_until_its_handle_is_closed(rt: HostRuntime) -> Result<(), Fail> {
+    let found = told_of_nameless(rt.alloc())?;
+    assert!(rt; found == [Ok(877), Ok(3), Ok(0), Ok(878)], "{found:?}");
+    Ok(())
+}
+
+// How many writes of so many bytes are whole, and what the next one is told. Each goes behind the others.
+fn filled(
+    alloc: Global,
+    fs: &mut Fs<TestDisk>,
+    handle: u64,
+    len: usize,
+) -> Result<(usize, Told), Fail> {
     for count in 0..100 {
-        let told = appended(alloc, fs, len)?;
+        let told = written_by(alloc, fs, handle, len)?;
         if told != Ok(len) {
             return Ok((count, told));
         }
@@ -249,11 +323,10 @@ fn filled(alloc: Global, fs: &mut Fs<TestDisk>, len: usize) -> Result<(usize, To
 
 // What a write of more than a run is told; and then of runs, and of moves, until there is no space for one.
 fn fills(alloc: Global, fs: &mut Fs<TestDisk>) -> Result<[(usize, Told); 3], Fail> {
-    let _pid = spawned(alloc, fs)?;
-    let _fd = opened(alloc, fs)?;
-    let first = appended(alloc, fs, 16_385)?;
-    let runs = filled(alloc, fs, 16_384)?;
-    let moves = filled(alloc, fs, 4096)?;
+    let handle = handle_of(alloc, fs, b"1 open file wca 0644")?;
+    let first = written_by(alloc, fs, handle, 16_385)?;
+    let runs = filled(alloc, fs, handle, 16_384)?;
+    let moves = filled(alloc, fs, handle, 4096)?;
     Ok([(1, first), runs, moves])
 }
 

@@ -64,7 +64,7 @@ fn sought(procs: &mut Procs, pid: usize, fd: usize, offset: u64) -> Result<u64, 
 
 fn moved(procs: &mut Procs, pid: usize, ino: u32) -> Result<u64, Errno> {
     let _process = procs.process(pid)?;
-    procs.stand_at(pid, 1, ino);
+    procs.stand_at(pid, ino);
     Ok(0)
 }
 

@@ -53,6 +53,8 @@ enum Said {
     Mask(u16),
     NoAcl,
     Space,
+    Opened(u64, u32),
+    Made(u32),
     Status(FileType),
     Denied(Need),
     Failed(Errno),
@@ -162,7 +164,7 @@ static GRANTS: [(Said, &str); 13] = [
     (Said::Granted(Rule::Sticky), "granted sticky"),
 ];
 
-static OTHERS: [(Said, &str); 8] = [
+static OTHERS: [(Said, &str); 10] = [
     (Said::Done, "ok"),
     (
         Said::Pid(18_446_744_073_709_551_615),
@@ -174,6 +176,8 @@ static OTHERS: [(Said, &str); 8] = [
     (Said::Mask(0o22), "umask 0022"),
     (Said::NoAcl, "acl none"),
     (Said::Space, "free 878 blocks 62 inodes"),
+    (Said::Opened(0, 3), "handle 0 inode 3"),
+    (Said::Made(4), "made 4"),
 ];
 
 static OWNED: [(Said, &str); 5] = [
@@ -274,6 +278,8 @@ fn reply_of(alloc: Global, said: Said) -> Result<Reply, AllocError> {
             sectors: 878,
             inodes: 62,
         },
+        Said::Opened(handle, ino) => Reply::Opened { handle, ino },
+        Said::Made(ino) => Reply::Made(ino),
         Said::Status(kind) => status(kind),
         Said::Denied(need) => denial(need),
         Said::Failed(errno) => Reply::Refused(Refusal::Failed(errno)),

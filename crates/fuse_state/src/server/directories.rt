@@ -1,4 +1,4 @@
-//! Open directories. They hold no descriptors.
+//! Open directories.
 ghost use Rattle.std.specs.Prelude.{◌≡◌, ◌+◌, ◌≤◌, length, option_copied};
 ghost use Rattle.fuse_state.specs.Shares.{count_of};
 ghost use Rattle.fuse_state.specs.Servers.{directory_holders, may_open_directory, directory_of, is_directory_open, listing_of, with_opened, with_listing, listings_while_open, without_directory};

@@ -93,8 +93,8 @@ fn change_length(chance: &mut Chance, request: &mut Vec<u8>) -> Result<(), Alloc
     Ok(())
 }
 
-// Puts the lowest bytes of a number there.
-fn put(request: &mut [u8], dentry: u64, size: usize, number: u64) {
+/// Puts the lowest bytes of a number there.
+pub fn put(request: &mut [u8], dentry: u64, size: usize, number: u64) {
     let mut rest = number;
     for byte in request.iter_mut().skip(dentry as usize).take(size) {
         *byte = (rest % 256) as u8;

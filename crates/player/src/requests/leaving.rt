@@ -2,23 +2,20 @@
 
 use anyhow::{anyhow, bail};
 use fs_check::{Summary, check};
-use fs_cred::{Errno, Refusal};
+use fs_cred::{Cred, Errno, Refusal};
 use fs_layout::ROOT;
 use fs_lines::{Line, parse_line, reply_text};
-use fs_model::{Call, Event, Listing, Named, Path, Reply};
+use fs_model::{Actor, Call, Event, HandleCall, Listing, Named, Path, Reply};
 use fs_system::Fs;
 use sector_disk::MemDisk;
 use std::alloc::{AllocError, Global};
 use std::mem;
 
-// The server's own process, which has all capabilities.
-const SERVER_PROCESS: usize = 1;
-
 // The most processes that there may be.
 const MAX_PROCESSES: usize = 64;
 
-// The most descriptors of one.
-const MAX_DESCRIPTORS: usize = 32;
+// More than there are handles.
+const MOST_HANDLES: u64 = 1000;
 
 // More than there are names.
 const MOST_STEPS: u32 = 100_000;
@@ -27,15 +24,11 @@ const MOST_STEPS: u32 = 100_000;
 #[derive(Clone, Copy)]
 enum Answer {
     Done,
-    AtRoot,
     Failed(Errno),
     Other,
 }
 
-/// Each process stands at the root; no directory is where the walks of one start, so that all names can be removed; and what is
-/// left on the disk is an empty root.
-///
-/// Descriptors are closed before that: OPEN of a directory, which Linux never asks for, leaves it open.
+/// There are no processes; once all handles are closed, all names can be removed; and what is left on the disk is an empty root.
 pub fn look_after(alloc: Global, fs: Fs<MemDisk>) -> anyhow::Result<()> {
     let mut fs = fs;
     match clear(alloc, &mut fs) {
@@ -48,12 +41,34 @@ pub fn look_after(alloc: Global, fs: Fs<MemDisk>) -> anyhow::Result<()> {
 }
 
 fn clear(alloc: Global, fs: &mut Fs<MemDisk>) -> anyhow::Result<()> {
-    open_root(alloc, fs)?;
+    let mut server = server_at_root(alloc)?;
+    let cleared = clear_as(alloc, fs, &mut server);
+    mem::drop(server);
+    cleared
+}
+
+fn clear_as(alloc: Global, fs: &mut Fs<MemDisk>, server: &mut Actor) -> anyhow::Result<()> {
+    open_root(alloc, fs, server)?;
     for pid in 1..=MAX_PROCESSES {
-        find_at_root(alloc, fs, pid)?;
-        close_all(fs, pid);
+        find_none(alloc, fs, pid)?;
     }
-    remove_all(alloc, fs)
+    for handle in 0..MOST_HANDLES {
+        close(fs, handle);
+    }
+    remove_all(alloc, fs, server)
+}
+
+// The server as an actor, which has all capabilities.
+fn server_at_root(alloc: Global) -> anyhow::Result<Actor> {
+    let Ok(cred) = Cred::new(alloc, 0, 0, &[]) else {
+        bail!("memory is lacking");
+    };
+    Ok(Actor {
+        cred,
+        umask: 0,
+        start: ROOT,
+        second_start: ROOT,
+    })
 }
 
 fn look_at_disk(alloc: Global, fs: Fs<MemDisk>) -> anyhow::Result<()> {
@@ -77,10 +92,17 @@ fn path(alloc: Global, bytes: &[u8]) -> Result<Path, AllocError> {
     Path::from_slice(alloc, bytes)
 }
 
-// The reply to a call.
-fn asked(fs: &mut Fs<MemDisk>, pid: usize, call: Call) -> Reply {
-    let reply = fs.serve_call(pid, &call);
+// The reply to a call of the server.
+fn asked(fs: &mut Fs<MemDisk>, server: &Actor, call: Call) -> Reply {
+    let reply = fs.call_at(server, &call);
     call.discard();
+    reply
+}
+
+// The reply to what is done by a handle.
+fn asked_by(fs: &mut Fs<MemDisk>, handle: u64, call: HandleCall) -> Reply {
+    let reply = fs.call_by(handle, &call);
+    mem::drop(call);
     reply
 }
 
@@ -99,7 +121,6 @@ fn call_of(alloc: Global, line: &str) -> anyhow::Result<Call> {
 fn answer_in(reply: &Reply) -> Answer {
     match reply {
         Reply::Done => Answer::Done,
-        Reply::Shown(status) if status.ino == ROOT => Answer::AtRoot,
         Reply::Refused(Refusal::Failed(errno)) => Answer::Failed(*errno),
         _ => Answer::Other,
     }
@@ -119,20 +140,21 @@ fn unexpected(alloc: Global, asked: &str, reply: Reply) -> anyhow::Error {
 }
 
 // Lets everybody search the root.
-fn open_root(alloc: Global, fs: &mut Fs<MemDisk>) -> anyhow::Result<()> {
+fn open_root(alloc: Global, fs: &mut Fs<MemDisk>, server: &Actor) -> anyhow::Result<()> {
     let call = call_of(alloc, "1 setacl / access u::rwx,g::rwx,o::rwx")?;
-    match asked(fs, SERVER_PROCESS, call) {
+    match asked(fs, server, call) {
         Reply::Done => Ok(()),
         other => Err(unexpected(alloc, "setacl", other)),
     }
 }
 
-// The process, where it is there, stands at the root.
-fn find_at_root(alloc: Global, fs: &mut Fs<MemDisk>, pid: usize) -> anyhow::Result<()> {
+// There is no such process.
+fn find_none(alloc: Global, fs: &mut Fs<MemDisk>, pid: usize) -> anyhow::Result<()> {
     let call = Call::Lstat(path(alloc, b".")?);
-    let reply = asked(fs, pid, call);
+    let reply = fs.call(pid, &call);
+    call.discard();
     match answer_in(&reply) {
-        Answer::AtRoot | Answer::Failed(Errno::ESRCH) => {
+        Answer::Failed(Errno::ESRCH) => {
             reply.discard();
             Ok(())
         }
@@ -143,52 +165,50 @@ fn find_at_root(alloc: Global, fs: &mut Fs<MemDisk>, pid: usize) -> anyhow::Resu
     }
 }
 
-fn close_all(fs: &mut Fs<MemDisk>, pid: usize) {
-    for fd in 0..MAX_DESCRIPTORS {
-        close(fs, pid, fd);
-    }
-}
-
-fn close(fs: &mut Fs<MemDisk>, pid: usize, fd: usize) {
-    asked(fs, pid, Call::Close(fd)).discard();
+fn close(fs: &mut Fs<MemDisk>, handle: u64) {
+    asked_by(fs, handle, HandleCall::Close).discard();
 }
 
 // Removes all that has a name.
-fn remove_all(alloc: Global, fs: &mut Fs<MemDisk>) -> anyhow::Result<()> {
+fn remove_all(alloc: Global, fs: &mut Fs<MemDisk>, server: &mut Actor) -> anyhow::Result<()> {
     let mut above = Vec::new(alloc);
     above.push(ROOT)?;
-    let removed = remove_below(alloc, fs, &mut above);
+    let removed = remove_below(alloc, fs, server, &mut above);
     mem::drop(above);
     removed
 }
 
 // Removes all names in these directories, of which each one stands in the one before it.
-fn remove_below(alloc: Global, fs: &mut Fs<MemDisk>, above: &mut Vec<u32>) -> anyhow::Result<()> {
+fn remove_below(
+    alloc: Global,
+    fs: &mut Fs<MemDisk>,
+    server: &mut Actor,
+    above: &mut Vec<u32>,
+) -> anyhow::Result<()> {
     for _ in 0..MOST_STEPS {
         let Some(directory) = above.last().copied() else {
             return Ok(());
         };
-        if !enters(fs, directory) {
-            bail!("enter failed");
-        }
-        remove_first(alloc, fs, above)?;
+        server.start = directory;
+        server.second_start = directory;
+        remove_first(alloc, fs, server, above)?;
     }
     bail!("too many names")
 }
 
-// Whether the server process stands in this directory from now on.
-fn enters(fs: &mut Fs<MemDisk>, directory: u32) -> bool {
-    fs.enter(SERVER_PROCESS, directory, directory).is_ok()
-}
-
 // Removes the first name in the last of these directories, goes below it, or goes up again where there is none.
-fn remove_first(alloc: Global, fs: &mut Fs<MemDisk>, above: &mut Vec<u32>) -> anyhow::Result<()> {
-    let Some(named) = first_named(alloc, fs)? else {
+fn remove_first(
+    alloc: Global,
+    fs: &mut Fs<MemDisk>,
+    server: &Actor,
+    above: &mut Vec<u32>,
+) -> anyhow::Result<()> {
+    let Some(named) = first_named(alloc, fs, server)? else {
         above.pop();
         return Ok(());
     };
     let ino = named.ino;
-    let removed = remove(alloc, fs, &named);
+    let removed = remove(alloc, fs, server, &named);
     mem::drop(named);
     if !removed? {
         above.push(ino)?;
@@ -196,19 +216,19 @@ fn remove_first(alloc: Global, fs: &mut Fs<MemDisk>, above: &mut Vec<u32>) -> an
     Ok(())
 }
 
-// Opens the directory that the server process stands in.
-fn open_here(alloc: Global, fs: &mut Fs<MemDisk>) -> anyhow::Result<usize> {
+// Opens the directory at which the server stands.
+fn open_here(alloc: Global, fs: &mut Fs<MemDisk>, server: &Actor) -> anyhow::Result<u64> {
     let call = call_of(alloc, "1 open . rd")?;
-    match asked(fs, SERVER_PROCESS, call) {
-        Reply::Fd(fd) => Ok(fd),
+    match asked(fs, server, call) {
+        Reply::Opened { handle, .. } => Ok(handle),
         other => Err(unexpected(alloc, "open", other)),
     }
 }
 
-fn names_in(alloc: Global, fs: &mut Fs<MemDisk>, fd: usize) -> anyhow::Result<Listing> {
-    match asked(fs, SERVER_PROCESS, Call::Readdir(fd)) {
+fn names_in(alloc: Global, fs: &mut Fs<MemDisk>, handle: u64) -> anyhow::Result<Listing> {
+    match asked_by(fs, handle, HandleCall::List) {
         Reply::Names(listing) => Ok(listing),
-        other => Err(unexpected(alloc, "readdir", other)),
+        other => Err(unexpected(alloc, "list", other)),
     }
 }
 
@@ -224,30 +244,44 @@ fn is_own(named: &Named) -> bool {
     named.name.bytes() == b".".as_slice() || named.name.bytes() == b"..".as_slice()
 }
 
-// The first name in the directory that the server process stands in.
-fn first_named(alloc: Global, fs: &mut Fs<MemDisk>) -> anyhow::Result<Option<Named>> {
-    let fd = open_here(alloc, fs)?;
-    let listing = names_in(alloc, fs, fd)?;
-    close(fs, SERVER_PROCESS, fd);
+// The first name in the directory at which the server stands.
+fn first_named(
+    alloc: Global,
+    fs: &mut Fs<MemDisk>,
+    server: &Actor,
+) -> anyhow::Result<Option<Named>> {
+    let handle = open_here(alloc, fs, server)?;
+    let listing = names_in(alloc, fs, handle)?;
+    close(fs, handle);
     Ok(first_of(listing))
 }
 
 // Removes a name there; false where it leads to a directory that isn't empty.
-fn remove(alloc: Global, fs: &mut Fs<MemDisk>, named: &Named) -> anyhow::Result<bool> {
+fn remove(
+    alloc: Global,
+    fs: &mut Fs<MemDisk>,
+    server: &Actor,
+    named: &Named,
+) -> anyhow::Result<bool> {
     let call = Call::Rmdir(path(alloc, named.name.bytes())?);
-    let reply = asked(fs, SERVER_PROCESS, call);
+    let reply = asked(fs, server, call);
     match answer_in(&reply) {
         Answer::Failed(Errno::ENOTDIR) => {
             reply.discard();
-            unlink(alloc, fs, named)
+            unlink(alloc, fs, server, named)
         }
         _ => is_removed(alloc, reply),
     }
 }
 
-fn unlink(alloc: Global, fs: &mut Fs<MemDisk>, named: &Named) -> anyhow::Result<bool> {
+fn unlink(
+    alloc: Global,
+    fs: &mut Fs<MemDisk>,
+    server: &Actor,
+    named: &Named,
+) -> anyhow::Result<bool> {
     let call = Call::Unlink(path(alloc, named.name.bytes())?);
-    is_removed(alloc, asked(fs, SERVER_PROCESS, call))
+    is_removed(alloc, asked(fs, server, call))
 }
 
 fn is_removed(alloc: Global, reply: Reply) -> anyhow::Result<bool> {

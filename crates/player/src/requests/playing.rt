@@ -88,6 +88,7 @@ fn settings_of(fs: &mut Fs<MemDisk>, start: u64, max_write: u32) -> Option<Setti
             seconds: start,
             nanoseconds: 0,
         },
+        commit: 0,
     })
 }
 

@@ -3,8 +3,10 @@
 //! They came about like this: shells, tests and small programs ran on a mount of Linux 6.18, and the requests of its kernel were
 //! served by a model of the server in another language, which kept what it read, what it was told beside that, and what it
 //! replied. Its file system had 1,024 sectors and 64 inodes. A small script brought what it kept into this form, and another one, which
-//! makes hashes itself, the names of listings into the order that they have now, with the offsets that a kernel would ask by. A third one
-//! gave handles the numbers that they have since a user reads what it owns by a process without its groups and capabilities.
+//! makes hashes itself, the names of listings into the order that they have now, with the offsets that a kernel would ask by. Handles are
+//! those that the model told; `handles.rt` puts others in their place.
+//! Fourteen replies were made anew by the rules of `docs/MOUNT.md`: to who gives a link another owner, changes a file without a name, runs
+//! what it can't read, or is granted a look-up whatever its groups are.
 //!
 //! The first line tells when the server began, in seconds, and the most bytes of one write. Each line below it is a request: the
 //! present time in seconds; the supplementary groups of who asks, with commas between them, `-` for none, or `unknown`; the

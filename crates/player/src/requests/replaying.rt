@@ -1,5 +1,6 @@
 //! Plays a recording, and compares the replies.
 
+use crate::requests::handles::Handles;
 use crate::requests::playing::{put_request, serve_new};
 use crate::requests::recording::{Exchange, Recording, seconds_of};
 use crate::values::value_after;
@@ -23,6 +24,7 @@ struct Recorded<'a> {
     present: Option<&'a Exchange>,
     // What was written since the last of them.
     written: Vec<u8>,
+    handles: Handles,
     // Which replies differ.
     told: String,
 }
@@ -40,11 +42,18 @@ pub fn replay<'a>(
         given: 0,
         present: None,
         written: Vec::new(alloc),
+        handles: Handles::new(alloc),
         told: String::new(alloc),
     };
     let played = play(alloc, recording, &mut kernel);
-    let Recorded { written, told, .. } = kernel;
+    let Recorded {
+        written,
+        handles,
+        told,
+        ..
+    } = kernel;
     mem::drop(written);
+    mem::drop(handles);
     value_after(played, told)
 }
 
@@ -64,6 +73,8 @@ impl<'a> Recorded<'a> {
             return Ok(());
         };
         self.present = None;
+        self.handles
+            .take(&exchange.request, &exchange.reply, &mut self.written)?;
         if !are_same(&self.written, &exchange.reply) {
             self.tell_both(&exchange.reply)?;
         }
@@ -111,7 +122,10 @@ impl<'a> Kernel for Recorded<'a> {
         self.present = Some(exchange);
         self.given = self.given.saturating_add(1);
         match put_request(buffer, &exchange.request) {
-            Some(size) => Ok(Some(size)),
+            Some(size) => {
+                self.handles.give_back(buffer);
+                Ok(Some(size))
+            }
             None => Err(io::Error::from(ErrorKind::InvalidInput)),
         }
     }

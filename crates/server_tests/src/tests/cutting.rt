@@ -3,7 +3,7 @@
 use crate::tests::sessions::{Player, answer_to};
 use bitflags::Flags as _;
 use fs_cred::{CredFault, Errno, Refusal};
-use fs_model::{Call, FileType, Flags, Reply, Status};
+use fs_model::{Actor, Call, Flags, HandleCall, Reply};
 use fuse_plans::Response;
 use fuse_protocol::{OpenFlags, Operation};
 use std::alloc::Global;
@@ -35,37 +35,35 @@ impl File {
         if (flags.read && !reads) || (flags.write && !writes) {
             return Reply::Refused(Refusal::Failed(Errno::EACCES));
         }
-        Reply::Fd(0)
+        if flags.trunc {
+            self.cut();
+        }
+        Reply::Opened { handle: 0, ino: 1 }
     }
 
-    fn cut(&mut self) -> Reply {
+    fn cut(&mut self) {
         let (ways, opens, cuts) = self.heard;
         self.heard = (ways, opens, cuts.saturating_add(1));
-        Reply::Done
     }
 }
 
 impl Player for File {
-    fn reply_to(&mut self, call: &Call) -> Reply {
+    fn reply_to(&mut self, _actor: &Actor, call: &Call) -> Reply {
         match call {
-            Call::Open(_, flags, _) => self.open(*flags),
-            Call::Truncate(..) | Call::Ftruncate(..) => self.cut(),
-            Call::Fstat(_) => Reply::Shown(STATUS),
-            _ => Reply::Done,
+            Call::Open(_, flags, _) => return self.open(*flags),
+            Call::Truncate(..) => self.cut(),
+            _ => {}
         }
+        Reply::Done
+    }
+
+    fn reply_by(&mut self, _handle: u64, call: &HandleCall) -> Reply {
+        if let HandleCall::Resize(_) = call {
+            self.cut();
+        }
+        Reply::Done
     }
 }
-
-// What the machine shows of its file.
-const STATUS: Status = Status {
-    ino: 1,
-    kind: FileType::File,
-    mode: 0o222,
-    links: 1,
-    owner: 0,
-    group: 0,
-    size: 4,
-};
 
 // The number of the error, or 0.
 fn number_of(response: Response) -> u8 {

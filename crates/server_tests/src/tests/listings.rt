@@ -1,8 +1,8 @@
-//! READDIRPLUS at a machine that is played: which nodes are told, and when they are forgotten; and how large directories go on.
+//! READDIRPLUS at a machine that is played: which names are told, to what their nodes lead, and how large directories go on.
 
-use crate::tests::sessions::{Played, Player, agree, answer_in, started};
-use fs_cred::CredFault;
-use fs_model::{Call, FileType, Listing, Name, Named, Reply, Status};
+use crate::tests::sessions::{Played, Player, agree, answer_in, settings, started};
+use fs_cred::{CredFault, Errno, Refusal};
+use fs_model::{Actor, Call, FileType, HandleCall, Listing, Name, Named, Reply, Status};
 use fuse_plans::{ReplyBody, Response};
 use fuse_protocol::{Extent, Operation};
 use fuse_sessions::Session;
@@ -34,17 +34,17 @@ fn names(alloc: Global) -> Listing {
     Listing::new(names)
 }
 
-// What a name leads to: to the root, unless it is one of the two.
-fn led_to(name: &[u8]) -> (u32, FileType) {
+// What a name of the root leads to, if it is one of the two.
+fn led_to(name: &[u8]) -> Option<u32> {
     match name.first() {
-        Some(b'a') => (5, FileType::File),
-        Some(b'b') => (6, FileType::File),
-        _ => (1, FileType::Directory),
+        Some(b'a') => Some(5),
+        Some(b'b') => Some(6),
+        _ => None,
     }
 }
 
-fn status_of(ino: u32, kind: FileType) -> Status {
-    Status {
+fn shown(ino: u32, kind: FileType) -> Reply {
+    Reply::Shown(Status {
         ino,
         kind,
         mode: 0o755,
@@ -52,18 +52,39 @@ fn status_of(ino: u32, kind: FileType) -> Status {
         owner: 0,
         group: 0,
         size: 0,
+    })
+}
+
+// What stat(2) shows of the object at which a path starts where that is empty, and else of the name.
+fn looked_at(start: u32, name: &[u8]) -> Reply {
+    let ino = if name.is_empty() {
+        Some(start)
+    } else {
+        led_to(name)
+    };
+    match ino {
+        Some(1) => shown(1, FileType::Directory),
+        Some(5) => shown(5, FileType::File),
+        Some(6) => shown(6, FileType::File),
+        _ => Reply::Refused(Refusal::Failed(Errno::ENOENT)),
     }
 }
 
+// What an opened directory has.
+const OPENED: Reply = Reply::Opened { handle: 0, ino: 1 };
+
 impl Player for Root {
-    fn reply_to(&mut self, call: &Call) -> Reply {
+    fn reply_to(&mut self, actor: &Actor, call: &Call) -> Reply {
         match call {
-            Call::Open(..) => Reply::Fd(0),
-            Call::Lstat(path) => {
-                let (ino, kind) = led_to(path.bytes());
-                Reply::Shown(status_of(ino, kind))
-            }
-            Call::Readdir(_) => Reply::Names(names(self.alloc)),
+            Call::Open(..) => OPENED,
+            Call::Lstat(path) => looked_at(actor.start, path.bytes()),
+            _ => Reply::Done,
+        }
+    }
+
+    fn reply_by(&mut self, _handle: u64, call: &HandleCall) -> Reply {
+        match call {
+            HandleCall::List => Reply::Names(names(self.alloc)),
             _ => Reply::Done,
         }
     }
@@ -82,7 +103,7 @@ enum Step {
 }
 
 // The handle of the first directory that is opened.
-const HANDLE: u64 = 4_294_967_296;
+const HANDLE: u64 = 0;
 
 // The node that is asked, and what.
 fn asked_by(step: Step) -> (u64, Operation<'static>) {
@@ -101,15 +122,17 @@ fn asked_by(step: Step) -> (u64, Operation<'static>) {
     }
 }
 
-// The number of the error, or 0; how many bytes were told, and the first of them, with which the number of a node begins.
-type Answer = (u8, usize, u8);
+// The number of the error, or 0; how many bytes were told; and the inode that is shown, or the first byte of them, with which the
+// number of a node begins.
+type Answer = (u8, usize, u32);
 
 fn answer_of(response: Response) -> Answer {
     match response {
         Response::Says(ReplyBody::Bytes(told)) => {
             let bytes = told.bytes();
-            (0, bytes.len(), bytes.first().copied().unwrap_or(0))
+            (0, bytes.len(), bytes.first().copied().unwrap_or(0).into())
         }
+        Response::Says(ReplyBody::Shown(attributes)) => (0, 0, attributes.status.ino),
         Response::Fails(error) => (error.number(), 0, 0),
         other => {
             mem::drop(other);
@@ -139,27 +162,26 @@ const BEHIND_A: u64 = 1_161_104_296_400_832_007;
 const BEHIND_B: u64 = 2_506_450_870_661_470_262;
 
 // The record of a name of one letter has 160 bytes.
-static ROWS: [(Step, Answer); 18] = [
+static ROWS: [(Step, Answer); 15] = [
     (Step::Opened, DONE),
-    (Step::Shown(5), STALE),
-    // There is room for no name, and then for one: the kernel knows the node that it was told, and no other.
+    // Nodes lead to their objects before they are told, and once they are forgotten; but not where there is no such object, or
+    // another one had the number.
+    (Step::Shown(5), (0, 0, 5)),
+    (Step::Shown(7), STALE),
+    (Step::Shown(4_294_967_301), STALE),
+    // There is room for no name, for one, and for both.
     (Step::Listed(0, 159), DONE),
-    (Step::Shown(5), STALE),
     (Step::Listed(0, 319), (0, 160, 5)),
-    (Step::Shown(5), DONE),
-    (Step::Shown(6), STALE),
-    // Each record counts: what was told once is forgotten once, and what was told twice not before twice.
-    (Step::Forgotten(5), DONE),
-    (Step::Shown(5), STALE),
-    (Step::Listed(BEHIND_A, 320), (0, 160, 6)),
     (Step::Listed(0, 320), (0, 320, 5)),
+    // A listing goes on behind an offset.
+    (Step::Listed(BEHIND_A - 1, 320), (0, 320, 5)),
+    (Step::Listed(BEHIND_A, 159), DONE),
+    (Step::Listed(BEHIND_A, 320), (0, 160, 6)),
     (Step::Listed(BEHIND_B, 320), DONE),
-    (Step::Forgotten(6), DONE),
-    (Step::Shown(6), DONE),
-    (Step::Forgotten(6), DONE),
-    (Step::Shown(6), STALE),
     (Step::Forgotten(5), DONE),
-    (Step::Shown(5), STALE),
+    (Step::Shown(5), (0, 0, 5)),
+    (Step::Shown(6), (0, 0, 6)),
+    (Step::Listed(0, 319), (0, 160, 5)),
 ];
 
 // The first row that a session answers otherwise, and how.
@@ -184,14 +206,14 @@ fn first_other(
     alloc: Global,
     rows: &[(Step, Answer)],
 ) -> Result<Option<(usize, Answer)>, CredFault> {
-    let mut session = started(alloc, Root { alloc }, false)?;
+    let mut session = started(alloc, Root { alloc }, settings(false, 0))?;
     let other = other_answer(&mut session, alloc, rows);
     mem::drop(session);
     other
 }
 
 #[test]
-fn told_nodes_are_counted(rt: HostRuntime) -> Result<(), Fail> {
+fn names_are_told_with_their_nodes(rt: HostRuntime) -> Result<(), Fail> {
     let other = first_other(rt.alloc(), &ROWS)?;
     assert!(rt; other == None, "{other:?}");
     Ok(())
@@ -229,14 +251,20 @@ fn files(alloc: Global) -> Listing {
 }
 
 impl Player for Large {
-    fn reply_to(&mut self, call: &Call) -> Reply {
+    fn reply_to(&mut self, _actor: &Actor, call: &Call) -> Reply {
         match call {
-            Call::Open(..) => Reply::Fd(0),
+            Call::Open(..) => OPENED,
             Call::Lstat(path) => match number_in(path.bytes()) {
-                1 => Reply::Shown(status_of(1, FileType::Directory)),
-                ino => Reply::Shown(status_of(ino, FileType::File)),
+                1 => shown(1, FileType::Directory),
+                ino => shown(ino, FileType::File),
             },
-            Call::Readdir(_) => Reply::Names(files(self.alloc)),
+            _ => Reply::Done,
+        }
+    }
+
+    fn reply_by(&mut self, _handle: u64, call: &HandleCall) -> Reply {
+        match call {
+            HandleCall::List => Reply::Names(files(self.alloc)),
             _ => Reply::Done,
         }
     }
@@ -323,7 +351,7 @@ fn open_root(session: &mut Session<Played<Large>>, alloc: Global) -> Result<(), 
 }
 
 fn course_of(alloc: Global, size: u32) -> Result<Course, CredFault> {
-    let mut session = started(alloc, Large { alloc }, false)?;
+    let mut session = started(alloc, Large { alloc }, settings(false, 0))?;
     let opened = open_root(&mut session, alloc);
     let course = list_root(&mut session, alloc, size);
     mem::drop(session);

@@ -1,45 +1,71 @@
-//! A server at a kernel that is played, without memory for any plan.
-ghost use Rattle.std.specs.Prelude.{⊤, false};
-ghost use Rattle.fuse_state.specs.Keepings.{nothing_kept};
-ghost use Rattle.fuse_state.specs.Servers.{new_server};
+//! A server at a kernel that is played: without memory for any plan, and where it is due that all be made to last.
+ghost use Rattle.std.specs.Prelude.{⊤};
 
-use fuse_plans::{Asked, Response, WhoCounts, needs_caller};
+use crate::tests::sessions::{self, Player, player_of, settings, started};
+use fs_model::{Event, Reply};
+use fuse_plans::{Asked, Response, WhoCounts};
 use fuse_protocol::{Operation, Time};
 use fuse_serving::{Caller, Kernel, Nobody, Performer, ReplyRoom, serve};
+use fuse_sessions::Session;
 use posix_acl::Acl;
 use std::alloc::{AllocError, Global};
 use std::io::{self, ErrorKind};
+use std::mem;
 
-// Whatever it is asked, it has no memory.
+// A machine that notes, by a letter each, that all is to be made to last, and that the free space is asked for.
 #[derive(Drop)]
-struct Lacking;
+struct Noter {
+    heard: Vec<u8>,
+}
+
+impl Player for Noter {
+    fn heed(&mut self, event: &Event) -> Reply {
+        let letter = match event {
+            Event::Sync => b's',
+            Event::Statfs => b'f',
+            _ => b'-',
+        };
+        let _noted = self.heard.push(letter);
+        Reply::Done
+    }
+}
+
+type Machine = sessions::Played<Noter>;
+
+// A session that begins, with such a machine.
+fn begun(alloc: Global, commit: u32) -> Result<Session<Machine>, AllocError> {
+    let noter = Noter {
+        heard: Vec::new(alloc),
+    };
+    started(alloc, noter, settings(false, commit))
+}
+
+// A session that has no memory for any plan.
+#[derive(Drop)]
+struct Lacking {
+    session: Session<Machine>,
+}
 
 impl Performer for Lacking {
-    type Machine = ();
+    type Machine = Machine;
 
-    ghost machine = { λ _. tt };
+    ghost machine = { λ lacking. lacking.session.machine };
 
-    // No event is ever served.
-    ghost Serves = { λ _ _ _ _. ⊥ };
+    // Nothing is claimed of what is served.
+    ghost Serves = { λ _ _ _ _. ⊤ };
 
-    ghost server = { λ _. new_server (record { max_write = 4096; posix_acl = false; keeping = nothing_kept; sectors = 1; inodes = 1; max_name = 120; keeps_times = false; start = record { seconds = 0; nanoseconds = 0 } }) };
+    ghost server = { λ lacking. lacking.session.server.server };
 
     fn is_ended(&self) -> bool {
-        false
+        self.session.is_ended()
     }
 
-    // It knows no name, and so nothing that anybody owns.
-    fn who_counts(&mut self, _node: u64, _uid: u32, operation: &Operation<'_>) -> WhoCounts {
-        match operation {
-            Operation::ReadDirPlus(_) => WhoCounts::Process,
-            _ => {
-                if needs_caller(operation) {
-                    WhoCounts::Process
-                } else {
-                    WhoCounts::Nobody
-                }
-            }
-        }
+    fn keep_due(&mut self, now: Time) {
+        self.session.keep_due(now);
+    }
+
+    fn who_counts(&mut self, node: u64, uid: u32, operation: &Operation<'_>) -> WhoCounts {
+        self.session.who_counts(node, uid, operation)
     }
 
     fn perform(
@@ -60,7 +86,7 @@ enum Fate {
     Failed,
 }
 
-// Requests, and what was written.
+// Requests, one a second from second 3 on, and what was written.
 #[derive(Drop)]
 struct Played<'a> {
     requests: &'a [&'a [u8]],
@@ -104,21 +130,29 @@ impl<'a> Kernel for Played<'a> {
 
     fn now(&mut self) -> io::Result<Time> {
         Ok(Time {
-            seconds: 0,
+            seconds: (self.next as u64).saturating_add(2),
             nanoseconds: 0,
         })
     }
 }
 
-// Number 88 asks for a name, 100 forgets a node, 22 asks for a name with a slash; the last is cut short.
+// Number 88 asks for a name, 100 forgets a node, 104 forgets two, 22 asks for a name with a slash, 9 asks for the free space; the last is
+// cut short.
 const LOOKUP: &[u8] =
     b"\x2a\0\0\0\x01\0\0\0\x58\0\0\0\0\0\0\0\x01\0\0\0\0\0\0\0\xe8\x03\0\0\x64\0\0\0\x6c\x76\0\0\0\0\0\0p\0";
 
 const FORGET: &[u8] =
     b"\x30\0\0\0\x02\0\0\0\x64\0\0\0\0\0\0\0\x02\0\0\0\x01\0\0\0\0\0\0\0\0\0\0\0\0\0\0\0\0\0\0\0\x02\0\0\0\0\0\0\0";
 
+const BATCH: &[u8] =
+    b"\x50\0\0\0\x2a\0\0\0\x68\0\0\0\0\0\0\0\0\0\0\0\0\0\0\0\0\0\0\0\0\0\0\0\0\0\0\0\0\0\0\0\x02\0\0\0\0\0\0\0\
+      \x08\0\0\0\0\0\0\0\x01\0\0\0\0\0\0\0\x09\0\0\0\0\0\0\0\x01\0\0\0\0\0\0\0";
+
 const SLASH: &[u8] =
     b"\x2c\0\0\0\x01\0\0\0\x16\0\0\0\0\0\0\0\x01\0\0\0\0\0\0\0\0\0\0\0\0\0\0\0\x8d\x77\0\0\0\0\0\0a/b\0";
+
+const SPACE: &[u8] =
+    b"\x28\0\0\0\x11\0\0\0\x09\0\0\0\0\0\0\0\x01\0\0\0\0\0\0\0\0\0\0\0\0\0\0\0\0\0\0\0\0\0\0\0";
 
 const CUT: &[u8] = b"\x2c\0\0\0\x01\0\0\0";
 
@@ -140,9 +174,9 @@ type Row = (
 static ROWS: [Row; 6] = [
     (&[], Fate::Taken, (0, 0, true), &[]),
     (
-        &[LOOKUP, FORGET, SLASH],
+        &[LOOKUP, FORGET, BATCH, SLASH],
         Fate::Taken,
-        (3, 2, true),
+        (4, 2, true),
         &[NO_MEMORY, INVALID],
     ),
     (
@@ -173,27 +207,46 @@ fn is_made_of(written: &[u8], replies: &[&[u8]]) -> bool {
     rest.is_empty()
 }
 
-// What was seen of a row's requests, and whether its replies were written.
-fn seen_of(alloc: Global, row: &Row) -> Result<(Seen, bool), AllocError> {
-    let mut room = ReplyRoom::new(alloc)?;
-    let (requests, fate, _, replies) = *row;
-    let mut kernel = Played {
+// A kernel with these requests.
+fn kernel_with<'a>(alloc: Global, requests: &'a [&'a [u8]], fate: Fate) -> Played<'a> {
+    Played {
         requests,
         next: 0,
         fate,
         written: Vec::new(alloc),
         writes: 0,
-    };
+    }
+}
+
+// Whether requests were served until the end.
+fn is_served<P: Performer>(
+    alloc: Global,
+    performer: &mut P,
+    kernel: &mut Played<'_>,
+) -> Result<bool, AllocError> {
+    let mut room = ReplyRoom::new(alloc)?;
     let mut buffer = [0; 128];
-    let result = serve(
+    let served = serve(
         alloc,
-        &mut Lacking,
-        &mut kernel,
+        performer,
+        kernel,
         &mut Nobody,
         &mut buffer,
         &mut room,
     );
-    let seen = (kernel.next, kernel.writes, result.is_ok());
+    Ok(served.is_ok())
+}
+
+// What was seen of a row's requests, and whether its replies were written.
+fn seen_of(alloc: Global, row: &Row) -> Result<(Seen, bool), AllocError> {
+    let (requests, fate, _, replies) = *row;
+    let mut lacking = Lacking {
+        session: begun(alloc, 0)?,
+    };
+    let mut kernel = kernel_with(alloc, requests, fate);
+    let served = is_served(alloc, &mut lacking, &mut kernel);
+    mem::drop(lacking);
+    let seen = (kernel.next, kernel.writes, served?);
     Ok((seen, is_made_of(&kernel.written, replies)))
 }
 
@@ -203,5 +256,37 @@ fn requests_are_answered_in_turn(rt: HostRuntime) -> Result<(), AllocError> {
         let seen = seen_of(rt.alloc(), row)?;
         assert!(rt; seen == (row.2, true), "{seen:?}");
     }
+    Ok(())
+}
+
+// After so many seconds all is made to last, before the next request: the server begins in second 3. With 0 it never is.
+static DUE: [(u32, &[u8]); 3] = [(0, b"ffff"), (1, b"fsfsfsf"), (2, b"ffsff")];
+
+// What the machine heard of four requests.
+fn heard_with(alloc: Global, commit: u32) -> Result<Vec<u8>, AllocError> {
+    let mut session = begun(alloc, commit)?;
+    let mut kernel = kernel_with(alloc, &[SPACE, SPACE, SPACE, SPACE], Fate::Taken);
+    let served = is_served(alloc, &mut session, &mut kernel);
+    mem::drop(kernel);
+    let Noter { heard } = player_of(session);
+    let _served = served?;
+    Ok(heard)
+}
+
+// The first number of seconds with which it heard something else.
+fn other_due(alloc: Global) -> Result<Option<u32>, AllocError> {
+    for (commit, wanted) in &DUE {
+        let heard = heard_with(alloc, *commit)?;
+        if heard.as_slice() != *wanted {
+            return Ok(Some(*commit));
+        }
+    }
+    Ok(None)
+}
+
+#[test]
+fn what_is_due_is_done_first(rt: HostRuntime) -> Result<(), AllocError> {
+    let other = other_due(rt.alloc())?;
+    assert!(rt; other == None, "{other:?}");
     Ok(())
 }

@@ -2,7 +2,7 @@
 ghost use Rattle.std.specs.Prelude.{⊤};
 
 use fs_cred::{Cred, CredFault};
-use fs_model::{Call, Event, Reply};
+use fs_model::{Actor, Call, Event, HandleCall, Reply};
 use fuse_plans::{Asked, Response};
 use fuse_protocol::{InitFlags, Offer, Operation, Time};
 use fuse_requests::perform;
@@ -12,21 +12,28 @@ use fuse_steps::Machine;
 use std::alloc::{AllocError, Global};
 use std::mem;
 
-// What a machine replies.
+// What a machine replies. What it says nothing of is done, and nothing more.
 pub(super) trait Player {
-    fn reply_to(&mut self, call: &Call) -> Reply;
+    // The reply to a call of an actor.
+    fn reply_to(&mut self, _actor: &Actor, _call: &Call) -> Reply {
+        Reply::Done
+    }
 
-    // What is no call is done, and nothing more.
+    // The reply to what is done by a handle.
+    fn reply_by(&mut self, _handle: u64, _call: &HandleCall) -> Reply {
+        Reply::Done
+    }
+
+    // The reply to what is no call.
     fn heed(&mut self, _event: &Event) -> Reply {
         Reply::Done
     }
 }
 
-// A machine that is played. It has so many processes.
+// A machine that is played.
 #[derive(Drop)]
 pub(super) struct Played<P> {
     player: P,
-    processes: usize,
 }
 
 impl<P: Player> Machine for Played<P> {
@@ -37,17 +44,17 @@ impl<P: Player> Machine for Played<P> {
         self.player.heed(event)
     }
 
-    fn call(&mut self, _pid: usize, call: &Call) -> Reply {
-        self.player.reply_to(call)
+    fn call_at(&mut self, actor: &Actor, call: &Call) -> Reply {
+        self.player.reply_to(actor, call)
     }
 
-    fn spawn(&mut self, _cred: &Cred) -> Reply {
-        self.processes = self.processes.saturating_add(1);
-        Reply::Pid(self.processes)
+    fn call_by(&mut self, handle: u64, call: &HandleCall) -> Reply {
+        self.player.reply_by(handle, call)
     }
 }
 
-fn settings(keeps_times: bool) -> Settings {
+// What is agreed on before a server serves: whether the disk keeps times, and after how many seconds all is made to last.
+pub(super) fn settings(keeps_times: bool, commit: u32) -> Settings {
     Settings {
         max_write: 4096,
         posix_acl: false,
@@ -60,6 +67,7 @@ fn settings(keeps_times: bool) -> Settings {
             seconds: 3,
             nanoseconds: 4,
         },
+        commit,
     }
 }
 
@@ -87,16 +95,18 @@ fn asked(node: u64, needs_nobody: bool, cred: Cred) -> Asked {
 pub(super) fn started<P: Player + Drop>(
     alloc: Global,
     player: P,
-    keeps_times: bool,
-) -> Result<Session<Played<P>>, CredFault> {
-    let machine = Played {
-        player,
-        processes: 0,
-    };
-    match Session::new(alloc, machine, settings(keeps_times)) {
+    settings: Settings,
+) -> Result<Session<Played<P>>, AllocError> {
+    match Session::new(alloc, Played { player }, settings) {
         Ok(session) => Ok(session),
-        Err(_) => Err(CredFault::from(AllocError)),
+        Err(_) => Err(AllocError),
     }
+}
+
+// Who played the machine of a session that ends.
+pub(super) fn player_of<P: Player>(session: Session<Played<P>>) -> P {
+    let Played { player } = session.into_machine();
+    player
 }
 
 // The user and the group of who asks.
@@ -146,8 +156,8 @@ pub(super) fn answer_to<P: Player + Drop>(
     ids: Ids,
     operation: &Operation<'_>,
 ) -> Result<(Response, P), CredFault> {
-    let mut session = started(alloc, player, keeps_times)?;
+    let mut session = started(alloc, player, settings(keeps_times, 0))?;
     let answer = first_answer(&mut session, alloc, ids, operation);
-    let Played { player, .. } = session.into_machine();
+    let player = player_of(session);
     Ok((answer?, player))
 }

@@ -3,7 +3,7 @@
 use crate::tests::sessions::{Player, answer_to};
 use bitflags::Flags;
 use fs_cred::{CredFault, Errno, Refusal};
-use fs_model::{Call, Event, FileType, Reply, Stamps, Status};
+use fs_model::{Actor, Call, Event, FileType, Reply, Stamps, Status};
 use fuse_plans::{ReplyBody, Response};
 use fuse_protocol::{AttrChanges, NewTime, OpenFlags, Operation, Time};
 use fuse_state::Times;
@@ -17,27 +17,28 @@ type Three<T> = [T; 3];
 // What was heard of times: the present one that was told, how often those of the object were asked for, and what they were set to.
 type Heard = (Option<u64>, u32, Option<Three<Option<u64>>>);
 
-// A machine whose one object is a directory. It shows this inode, and has these times for it, unless it refuses.
+// A machine whose one object is a directory, unless that is gone. It has these times for it, unless it refuses.
 #[derive(Drop)]
 struct Directory {
-    ino: u32,
+    is_there: bool,
     stamps: Option<Stamps>,
     heard: Heard,
 }
 
-impl Directory {
-    fn status(&self) -> Status {
-        Status {
-            ino: self.ino,
-            kind: FileType::Directory,
-            mode: 0o755,
-            links: 1,
-            owner: 0,
-            group: 0,
-            size: 0,
-        }
-    }
+// What it shows of the directory.
+const STATUS: Status = Status {
+    ino: 1,
+    kind: FileType::Directory,
+    mode: 0o755,
+    links: 1,
+    owner: 0,
+    group: 0,
+    size: 0,
+};
 
+const NONE_THERE: Refusal = Refusal::Failed(Errno::ENOENT);
+
+impl Directory {
     fn stamp(&mut self, new: Three<Option<u64>>) -> Reply {
         let (now, asked, set) = self.heard;
         self.heard = match new {
@@ -46,7 +47,7 @@ impl Directory {
         };
         match self.stamps {
             Some(stamps) => Reply::Stamped(stamps),
-            None => Reply::Refused(Refusal::Failed(Errno::ENOENT)),
+            None => Reply::Refused(NONE_THERE),
         }
     }
 }
@@ -68,10 +69,13 @@ impl Player for Directory {
         }
     }
 
-    fn reply_to(&mut self, call: &Call) -> Reply {
+    fn reply_to(&mut self, _actor: &Actor, call: &Call) -> Reply {
+        if !self.is_there {
+            return Reply::Refused(NONE_THERE);
+        }
         match call {
-            Call::Open(..) => Reply::Fd(0),
-            Call::Lstat(_) | Call::Fstat(_) => Reply::Shown(self.status()),
+            Call::Open(..) => Reply::Opened { handle: 0, ino: 1 },
+            Call::Lstat(_) => Reply::Shown(STATUS),
             _ => Reply::Done,
         }
     }
@@ -142,14 +146,14 @@ fn answer_of(response: Response) -> Answer {
     }
 }
 
-// Whether the disk keeps times, the inode that the machine shows, and the times that it has.
-type Disk = (bool, u32, Option<Stamps>);
+// Whether the disk keeps times, whether the object is there, and the times that the machine has.
+type Disk = (bool, bool, Option<Stamps>);
 
 // The answer to a request of a server that has just begun, and what the machine heard.
 fn answered(alloc: Global, disk: Disk, ask: Ask) -> Result<(Answer, Heard), CredFault> {
-    let (keeps_times, ino, stamps) = disk;
+    let (keeps_times, is_there, stamps) = disk;
     let directory = Directory {
-        ino,
+        is_there,
         stamps,
         heard: (None, 0, None),
     };
@@ -170,14 +174,13 @@ const STAMPS: Stamps = Stamps {
     ctime: 7_000_000_002,
 };
 
-const KEEPS: Disk = (true, 1, Some(STAMPS));
+const KEEPS: Disk = (true, true, Some(STAMPS));
 
-const KEEPS_NONE: Disk = (false, 1, None);
+const KEEPS_NONE: Disk = (false, true, None);
 
-const REFUSES: Disk = (true, 1, None);
+const REFUSES: Disk = (true, true, None);
 
-// The name that leads to the root shows another inode.
-const OTHER: Disk = (true, 8, Some(STAMPS));
+const GONE: Disk = (true, false, Some(STAMPS));
 
 // What is shown of `STAMPS`, of a server that has just begun, and once it has changed something.
 const TIMES: Three<Shown> = [(1, 500_000_000), (3, 4), (7, 2)];
@@ -233,14 +236,14 @@ const ROWS: [(Disk, Ask, Answer, Heard); 13] = [
     (KEEPS, Ask::Open(0), (0, None), SILENT),
     // A refusal is a fault of the machine: EIO.
     (REFUSES, Ask::Times, (5, None), (None, 1, None)),
-    // Of another object no times are set: ESTALE.
+    // Of an object that is gone none are shown or set: ESTALE.
+    (GONE, Ask::Times, (116, None), SILENT),
     (
-        OTHER,
+        GONE,
         Ask::Set(None, Some(BEFORE)),
         (116, None),
         (Some(NOW), 0, None),
     ),
-    (OTHER, Ask::Times, (0, Some(TIMES)), (None, 1, None)),
 ];
 
 #[test]

@@ -12,7 +12,7 @@ returns-in_err-descriptor-clause-refused g c =
     let r = c.from_residual.ensures in
     let old = g.S.Sectors.state c.args.s.now in
     failed_with c.from_residual.result c.in_err-descriptor.field-0.0 _ r.0 r.1
-    (λ s at. not_open s c.args.pid c.args.fd c.args.purpose at.same_processes old.disk old.disk (c.in_err-descriptor.ensures.refused s at.same_processes))
+    (λ s at. not_open s c.args.place c.args.purpose at.same_tables old.disk old.disk (c.in_err-descriptor.ensures.refused s at.same_tables))
 
 pub load_inode-requires-clause-below : goal.load_inode-requires-clause-below
 load_inode-requires-clause-below g c =
@@ -26,7 +26,7 @@ returns-in_err-inode-clause-refused g c =
     let new = g.S.Sectors.state c.load_inode.new.s in
     let e = c.in_err-inode.field-0.0 in
     failed_with c.from_residual-in_err-inode.result e _ r.0 r.1
-    (λ s at. unread_open s c.args.pid c.args.fd c.args.purpose at.same_processes old.disk new.disk e c.in_ok-descriptor.ensures.is_open c.in_err-inode.ensures.fault)
+    (λ s at. unread_open s c.args.place c.args.purpose at.same_tables old.disk new.disk e c.in_ok-descriptor.ensures.is_open c.in_err-inode.ensures.fault)
 
 pub returns-clause-opened : goal.returns-clause-opened
 returns-clause-opened g c =
@@ -35,6 +35,6 @@ returns-clause-opened g c =
       ready = ready_kept same c.requires.ready;
       table = c.in_ok-descriptor.ensures.table;
       is_open = c.in_ok-descriptor.ensures.is_open;
-      inode = kept (λ (m : SectorMap). c.in_ok-inode.inode ≡ inode_at c.args.caller.now.geometry m c.in_ok-descriptor.descriptor.ino) same
-          (c.in_ok-inode.ensures.found ∙ ap (λ (d : Descriptor). inode_at c.args.caller.now.geometry (g.S.Sectors.state c.args.s.now).sectors d.ino) c.descriptor.view_is);
+      inode = kept (λ (m : SectorMap). c.in_ok-inode.inode ≡ inode_at c.args.geometry m c.in_ok-descriptor.descriptor.ino) same
+          (c.in_ok-inode.ensures.found ∙ ap (λ (d : Descriptor). inode_at c.args.geometry (g.S.Sectors.state c.args.s.now).sectors d.ino) c.descriptor.view_is);
     }

@@ -1,6 +1,7 @@
 use Rattle.fs_cred.specs.declared.refusal.Refusal.TheVariants.{Failed}
 use Rattle.fs_layout.specs.Bytes.{SectorMap}
 use Rattle.path_walk.proofs.Kept.{failed_with, kept_back}
+use Rattle.call_parts.specs.BothTables.{tables_of}
 use Rattle.call_parts.specs.Callers.{who_of}
 use Rattle.call_parts.specs.Performing.{IsStateOf}
 use Rattle.call_parts.proofs.ByTwoPaths.{absent_both, unwalked_both, both_found, same_err}
@@ -45,7 +46,7 @@ returns-clause-walked g c =
       old_bytes = found.old_bytes;
       new_bytes = found.new_bytes;
       found = λ s at.
-          let before = kept_back (λ (m : SectorMap). IsStateOf c.args.caller.now.geometry m c.args.caller.now.procs.now s) found.same at in
+          let before = kept_back (λ (m : SectorMap). IsStateOf c.args.caller.now.geometry m (tables_of c.args.caller.now) s) found.same at in
           both_found old.disk new.disk s who q (same_caller before who q there) c.args.links c.args.old.now c.args.new.now c.in_ok-first.first c.in_ok-first.second found.valid
           (found.each found.valid s before);
     }

@@ -1,3 +1,4 @@
+use Rattle.std.proofs.Common.{refl}
 use Rattle.std.proofs.Common.{arith, ℕ, inr}
 use Rattle.fs_model.specs.declared.reply.Reply.TheVariants.{Done}
 use Rattle.call_parts.proofs.Changed.{may_touch}
@@ -11,7 +12,7 @@ returns g c =
     let x = c.in_ok-reached.ensures in
     let o = x.owned in
     let given = c.in_ok-give_mode.ensures.given in
-    changed (chmod_by_path c.args.path.now c.args.mode c.check_mode-checks.result c.check_mode-checks.ensures) x.same o.reached.walked
+    changed (chmod_by_path c.args.path.now c.args.mode c.check_mode-checks.result c.check_mode-checks.ensures) x.same o.reached.walked refl
     (g.S.Sectors.state c.give_mode.new.s) c.in_ok-give_mode.ensures.store (given _ (reached_access o.reached).acl).one.super c.in_ok-touch.ensures.made Done
     (λ s has at. mode_changed at has o.reached.inode c.cred-cred.result.now c.args.mode _ c.cred-cred.ensures o.met given)
 

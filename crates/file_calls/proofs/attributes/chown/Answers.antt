@@ -1,3 +1,4 @@
+use Rattle.std.proofs.Common.{refl}
 use Rattle.std.proofs.Common.{arith, ℕ, sym, inr}
 use Rattle.fs_model.specs.declared.reply.Reply.TheVariants.{Done}
 use Rattle.sector_txn.proofs.TransactionRuns.{store_same}
@@ -61,7 +62,7 @@ pub returns : goal.returns
 returns g c =
     let x = c.in_ok-reached.ensures in
     let gives = c.in_ok-give_owner.ensures.made in
-    changed (chown_by_path c.args.path.now c.args.owner c.args.group) x.same x.reached.walked (g.S.Sectors.state c.give_owner.new.s)
+    changed (chown_by_path c.args.path.now c.args.owner c.args.group) x.same x.reached.walked refl (g.S.Sectors.state c.give_owner.new.s)
     c.in_ok-give_owner.ensures.store gives.one.super c.in_ok-touch.ensures.made Done
     (λ s has at. owner_changed at has x.reached.inode c.args.owner c.args.group c.unwrap_or-uid.result c.unwrap_or-gid.result c.unwrap_or-uid.ensures c.unwrap_or-gid.ensures
     c.cred-cred.result.now tt _ c.cred-cred.ensures (sym c.in_ok-check_owner.ensures) gives)

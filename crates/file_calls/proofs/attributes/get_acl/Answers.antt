@@ -42,7 +42,7 @@ returns-clause-performs g c =
     let x = c.in_ok-reached.ensures in
     let f = c.in_ok-reached.reached.found in
     let q = c.in_ok-reached.reached.process in
-    told (get_acl_by_path c.args.path.now c.args.which) x.same x.reached.walked (g.S.Sectors.state c.shown_acl.new.s) c.in_ok-acl.ensures.same (Acl c.in_ok-acl.acl)
+    told (get_acl_by_path c.args.path.now c.args.which) x.same x.reached.walked refl (g.S.Sectors.state c.shown_acl.new.s) c.in_ok-acl.ensures.same (Acl c.in_ok-acl.acl)
     (λ s has at.
     let i = x.reached.inode in
     let a = followed_access c.in_ok-reached.reached.ino at has i.some in (

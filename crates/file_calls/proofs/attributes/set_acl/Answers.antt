@@ -1,3 +1,4 @@
+use Rattle.std.proofs.Common.{refl}
 use Rattle.std.specs.Prelude.{◌≡◌, None}
 use Rattle.std.specs.Option.{option_copied}
 use Rattle.std.proofs.Common.{arith, ℕ, ◌∙◌, sym, inr}
@@ -110,7 +111,7 @@ returns g c =
     let same = c.in_ok-ask_for_space.ensures.same in
     let done = c.in_ok-replace_acl.ensures in
     let given = sym c.check_acl-checks.ensures ∙ o.reached.walked.fine in
-    changed by x.same o.reached.walked (g.S.Sectors.state c.replace_acl.new.s) (store_joined same.store done.store)
+    changed by x.same o.reached.walked refl (g.S.Sectors.state c.replace_acl.new.s) (store_joined same.store done.store)
     (given_super c.args.caller.now.geometry c.in_ok-reached.reached.ino c.args.which (option_copied c.args.acl) (met_ok (first_of (set_acl_arguments c.args.which (option_copied c.args.acl))) tt tt given).0
     done.made.access done.made.default ∙ same.sectors 0) c.in_ok-touch.ensures.made Done
     (λ s has at. acl_given at has o.reached.inode o.met c.args.which (option_copied c.args.acl) given (sym c.in_ok-check_holder.ensures) same c.in_ok-ask_for_space.ensures.each done.made)

@@ -1,3 +1,5 @@
+use Rattle.std.proofs.Common.{ap}
+use Rattle.call_parts.specs.BothTables.{both}
 use Rattle.sector_txn.proofs.TransactionRuns.{store_same}
 use Rattle.file_calls.proofs.Endings.{absent_exits, failed_exits, exited, no_exit_err}
 use Rattle.file_calls.proofs.process.exit.Goals as goal
@@ -19,4 +21,4 @@ returns-in_err-exit g c = absurd (no_exit_err c.args.procs.now c.args.pid c.in_o
 pub returns : goal.returns
 returns g c =
     let done = c.in_ok-leave_all.ensures in
-    exited c.exit.new.self c.in_ok-process.field-0.now c.in_ok-process.ensures.found c.exit.ensures.gone done.store done.made.super done.made.held
+    exited (both c.exit.new.self c.args.openings.now.0) c.in_ok-process.field-0.now c.in_ok-process.ensures.found (ap (λ m. both m c.args.openings.now.0) c.exit.ensures.gone) done.store done.made.super done.made.held

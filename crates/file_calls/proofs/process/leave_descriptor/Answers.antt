@@ -1,7 +1,7 @@
+use Rattle.file_calls.specs.Exiting.{ended}
+use Rattle.call_parts.specs.BothTables.{both, users_of}
 use Rattle.std.proofs.Common.{ℕ, sym, ap, subst}
-use Rattle.std.specs.Ordering.{nat_cmp}
 use Rattle.bit_alloc.proofs.Transactions.{unchanged_nothing}
-use Rattle.fs_layout.specs.Maps.{without}
 use Rattle.fs_model.specs.Processes.{Descriptor, is_open}
 use Rattle.call_parts.specs.Dropping.{LeavesInode}
 use Rattle.call_parts.proofs.Alterings.{not_changed}
@@ -22,8 +22,8 @@ returns g c =
     record {
       store = c.in_ok-leave.ensures.store;
       made = was_open c.in-Ok.descriptor (sym c.in-Ok.ensures.answer)
-          (subst (λ (n : ℕ). LeavesInode c.args.geometry n (is_open (without nat_cmp c.args.procs.now c.args.pid) n) old new)
+          (subst (λ (n : ℕ). LeavesInode c.args.geometry n (is_open (users_of (ended (both c.args.procs.now c.args.openings.now.0) c.args.pid)) n) old new)
           (ap (λ (d : Descriptor). d.ino) c.descriptor.view_is)
-          (subst (λ b. LeavesInode c.args.geometry c.descriptor.inside.ino b old new) c.is_open_by_others-stays_open.ensures c.in_ok-leave.ensures.leaves));
+          (subst (λ b. LeavesInode c.args.geometry c.descriptor.inside.ino b old new) c.stays_open_without-stays_open.ensures c.in_ok-leave.ensures.leaves));
       fault = tt;
     }

@@ -1,3 +1,4 @@
+use Rattle.std.proofs.Common.{refl}
 use Rattle.std.proofs.Common.{ℕ, ap, ◌∙◌, [], ◌∷◌}
 use Rattle.fs_cred.specs.declared.rule.Rule.{Rule}
 use Rattle.fs_cred.specs.Verdicts.{verdict}
@@ -49,7 +50,7 @@ returns-clause-performs g c =
     let q = c.in_ok-reached.reached.process in
     let n = c.in_ok-reached.reached.ino in
     let rule = c.in_ok-rule.rule in
-    told (access_by_path c.args.path.now c.args.want) x.same x.reached.walked (g.S.Sectors.state c.permitted.new.s) c.in_ok-rule.ensures.same (Granted rule)
+    told (access_by_path c.args.path.now c.args.want) x.same x.reached.walked refl (g.S.Sectors.state c.permitted.new.s) c.in_ok-rule.ensures.same (Granted rule)
     (λ s has at.
     let i = x.reached.inode in
     let a = followed_access n at has i.some in

@@ -11,10 +11,10 @@ returns g c = record {
   found = λ bytes held.
       let old = c.deref_mut.result.now in
       let len = c.deref_mut.ensures.len in
-      let size : length old ≡ min (min c.args.len 131072) (c.args.inode.now.size - c.args.offset) =
-      omega (arith, len, c.in-Ok.ensures.len, c.min-count.ensures, c.min.ensures, c.saturating_sub.ensures) in
+      let size : length old ≡ min c.args.len (c.args.inode.now.size - c.args.offset) =
+      omega (arith, len, c.in-Ok.ensures.len, c.min-count.ensures, c.saturating_sub.ensures) in
       written_back c.new.result c.read_at.new.to _ (vec_len c.resize.new.self) c.new.ensures (c.read_at.auto.to ∙ len)
-      ∙ read_part bytes old c.read_at.new.to c.args.offset (min c.args.len 131072) c.args.inode.now.size c.in-Ok-read_at.field-0 size held.size
+      ∙ read_part bytes old c.read_at.new.to c.args.offset c.args.len c.args.inode.now.size c.in-Ok-read_at.field-0 size held.size
       (c.in-Ok-read_at.ensures.bytes bytes held);
   interrupts = tt;
   same = c.in-Ok-read_at.ensures.same;

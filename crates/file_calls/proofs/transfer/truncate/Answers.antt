@@ -1,3 +1,4 @@
+use Rattle.std.proofs.Common.{refl}
 use Rattle.std.specs.Prelude.{false, true, nat_lt}
 use Rattle.std.proofs.Common.{◌≡◌, arith, ℕ, sym, inr, ◌∙◌}
 use Rattle.fs_cred.specs.declared.errno.Errno.TheVariants.{EISDIR, EFBIG}
@@ -116,7 +117,7 @@ returns g c =
     let x = c.in_ok-reached.ensures in
     let same = c.in_ok-permitted.ensures.same in
     let done = c.in_ok-give_size.ensures in
-    changed (truncate_by_path c.args.path.now c.args.size) x.same x.reached.walked (g.S.Sectors.state c.give_size.new.s)
+    changed (truncate_by_path c.args.path.now c.args.size) x.same x.reached.walked refl (g.S.Sectors.state c.give_size.new.s)
     (store_joined same.store done.store) (done.made.super ∙ same.sectors 0) c.in_ok-touch.ensures.made Done
     (λ s has at. resized_found at has x.reached.inode (sym c.in_ok-check_no_directory.ensures) c.cred-cred.result.now c.cred-cred.ensures c.in_ok-permitted.ensures.each same
     c.args.size (sym c.in_ok-check_size.ensures) done.made)

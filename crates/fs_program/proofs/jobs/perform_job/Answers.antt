@@ -29,4 +29,4 @@ returns-in-Upgrade g c = rw c.in-Upgrade.is c.upgrade_image.ensures
 pub returns-in-Fuse : goal.returns-in-Fuse
 returns-in-Fuse g c =
     let served = rw c.as_ref-in-Fuse.ensures.value at c.serve_image.ensures in
-    rw c.in-Fuse.is (fuse_job_ends _ _ g.P.Processes.Shows _ _ _ _ _ served (λ k. k.processes) (λ old new x does. does) c.args.processes c.new-kernel.ensures)
+    rw c.in-Fuse.is (fuse_job_ends _ _ g.P.Processes.Shows _ _ _ _ _ _ served (λ k. k.processes) (λ old new x does. does) c.args.processes c.new-kernel.ensures)

@@ -22,8 +22,8 @@ returns g c =
     let errno = c.unmount-errno.result.1 in
     has_served served (unmounted errno)
     (serves_on g.D.Disk.state g.K.Kernel.Does c.args.disk c.unmount-errno.result.0 first c.serve_requests-served.result.1 c.args.own_rules
-    c.args.kernel.now c.now.new.self c.serve_requests-served.new.kernel start c.settings_of-settings.result served (unmounted errno)
+    c.args.commit c.args.kernel.now c.now.new.self c.serve_requests-served.new.kernel start c.settings_of-settings.result served (unmounted errno)
     c.in-Ok-now.ensures c.in-Ok-mount_salted.ensures.mounted
-    (c.settings_of-settings.ensures ∙ ap (λ p. settings_of p c.args.own_rules start) c.geometry.ensures)
+    (c.settings_of-settings.ensures ∙ ap (λ p. settings_of p c.args.own_rules c.args.commit start) c.geometry.ensures)
     c.serve_requests-served.ensures c.unmount-errno.ensures.does)
     (c.unmount_end.ensures ∙ ap (λ s. unmount_end s (unmounted errno)) c.tell_served.ensures)

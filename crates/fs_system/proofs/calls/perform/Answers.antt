@@ -1,25 +1,35 @@
-use Rattle.std.proofs.Common.{◌≡◌, Bool, true, false, sym, ap, subst, ◌∙◌, Err}
-use Rattle.std.specs.Prelude.{not, ◌&&◌, ◌||◌}
+use Rattle.std.proofs.Common.{◌≡◌, ℕ, List, Bool, true, false, refl, sym, ap, subst, Err}
+use Rattle.std.specs.Prelude.{not, ◌||◌, IsTrue}
 use Rattle.fs_cred.specs.declared.errno.Errno.TheVariants.{EBADF}
 use Rattle.fs_cred.specs.declared.refusal.Refusal.TheVariants.{Failed}
-use Rattle.call_parts.specs.Callers.{Who, ByActor, who_of}
+use Rattle.fs_model.specs.declared.call.Call.{Call}
+use Rattle.fs_model.specs.declared.call.Call.TheVariants.{Open}
+use Rattle.fs_model.specs.declared.call.Flags.{Flags}
+use Rattle.call_parts.specs.BothTables.{both}
+use Rattle.call_parts.specs.Callers.{Who, ByCaller, ByActor, opens, who_of}
 use Rattle.call_parts.specs.Performing.{Performs}
 use Rattle.fs_system.proofs.CalledAt.{no_actor_call}
 use Rattle.fs_system.proofs.calls.perform.Goals as goal
 
--- neither of the calls on files nor of those on names that actors make
-neither : (names actor : Bool) → (names || not actor) ≡ true → (names && actor) ≡ false → actor ≡ false
-neither true actor file name = name
-neither false false file name = name
-neither false true file name = absurd cc
+-- a call that isn't open opens nothing
+opens_nothing : (call : Call) → ((path : List ℕ) (flags : Flags) (mode : ℕ) → call ≡ Open path flags mode → ⊥) → opens call ≡ false
+opens_nothing (Open path flags mode) other = absurd (other path flags mode refl)
+opens_nothing _ other = refl
+
+-- what opens nothing, and what no actor makes or what opens something
+no_actors : (actor opening : Bool) → IsTrue (not actor || opening) → opening ≡ false → actor ≡ false
+no_actors false opening either none = refl
+no_actors true opening either none = absurd cc
 
 pub returns-in_default-by : goal.returns-in_default-by
 returns-in_default-by g c =
     let v = c.in_default-by.field-0.now in
-    let no_file = c.in_default.ensures in
-    let no_name = c.in_default-perform.ensures in
-    subst (λ (who : Who). Performs c.args.geometry c.args.time who c.args.call.now (g.S.Sectors.state c.args.s.now) (g.S.Sectors.state c.perform-2.new.s) c.args.procs.now c.args.procs.now (Err (Failed EBADF)))
+    let call = c.args.call.now in
+    let old = g.S.Sectors.state c.args.s.now in
+    let tables = both c.args.procs.now c.args.openings.now.0 in
+    let left = c.in_default-perform_by_path.ensures in
+    let none = no_actors _ _ left.0 (opens_nothing call c.in_default.not-Open) in
+    subst (λ (who : Who). Performs c.args.site.geometry c.args.site.time (ByCaller who call) old (g.S.Sectors.state c.perform_by_path.new.s) tables tables (Err (Failed EBADF)))
     (sym (ap who_of c.in_default-by.is))
-    (subst (λ k. Performs c.args.geometry c.args.time (ByActor v) c.args.call.now (g.S.Sectors.state c.args.s.now) (g.S.Sectors.state k) c.args.procs.now c.args.procs.now (Err (Failed EBADF)))
-    (sym (no_name.1 ∙ no_file.1))
-    (no_actor_call v c.args.call.now (neither _ _ no_file.0 no_name.0)))
+    (subst (λ k. Performs c.args.site.geometry c.args.site.time (ByCaller (ByActor v) call) old (g.S.Sectors.state k) tables tables (Err (Failed EBADF)))
+    (sym left.1) (no_actor_call v call none))

@@ -1,5 +1,5 @@
-use Rattle.fuse_plans.proofs.laws.opened_is_the_object.Goals as goal
 use Rattle.fuse_plans.proofs.OpenedObjects.{opened_is_the_object as law}
+use Rattle.fuse_plans.proofs.laws.opened_is_the_object.Goals as goal
 
 pub returns : goal.returns
 returns c = law

@@ -9,4 +9,4 @@ returns-in_err-set_times g c =
     then-ok _ c.in_ok-status.ensures.did (then-fails _ c.from_residual-in_err-set_times.ensures c.in_err-set_times.ensures)
 
 pub returns : goal.returns
-returns g c = then-ok _ c.in_ok-status.ensures.did (then-ok _ c.in_ok-set_times.ensures c.tell_attributes.ensures)
+returns g c = then-ok _ c.in_ok-status.ensures.did (then-ok _ c.in_ok-set_times.ensures (c.tell_attributes.ensures))

@@ -23,7 +23,7 @@ returns-then-is_some-clause-listed g c =
           reads _ _ refl
           (needs-some _ _ (sym c.in-Some.ensures)
           (reads _ _ refl
-          (same-work (listed-before c.args.node c.args.extent.handle c.in-Some.open.now (ne_eqb _ _ c.if-extent-ne0.true) has.1) (gives _ _))));
+          (same-work (listed-before c.args.node c.args.extent.handle c.in-Some.open.now (ne_eqb _ _ c.if-extent-ne0.true) has.1) (gives has.0 c.args.session.now))));
       kept = has.1;
     }
 

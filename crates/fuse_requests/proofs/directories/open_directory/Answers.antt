@@ -1,21 +1,21 @@
-use Rattle.fuse_sessions.proofs.Doings.{needs-some, needs-none, reads, then-fails, then-ok}
+use Rattle.fuse_sessions.proofs.Doings.{attempts, of-result, then-fails, then-ok}
 use Rattle.fuse_requests.proofs.directories.open_directory.Goals as goal
 
 pub returns-in_err-ino : goal.returns-in_err-ino
 returns-in_err-ino g c = then-fails _ c.from_residual.ensures c.in_err-ino.ensures
 
-pub returns-in_default : goal.returns-in_default
-returns-in_default g c = then-ok _ c.in_ok-ino.ensures (needs-none _ _ _ c.in_default.is)
+pub returns-in_err-cred : goal.returns-in_err-cred
+returns-in_err-cred g c =
+    then-ok _ c.in_ok-ino.ensures (then-fails _ c.from_residual-in_err-cred.ensures (of-result c.in_err-cred.ensures))
 
-pub returns-in_err-access_if : goal.returns-in_err-access_if
-returns-in_err-access_if g c =
-    then-ok _ c.in_ok-ino.ensures (needs-some _ _ c.in-Some.is
-    (reads _ _ c.has_dentry-has_name.ensures
-    (then-fails _ c.from_residual-in_err-access_if.ensures (rw c.from_digit.ensures at c.in_err-access_if.ensures.did))))
+pub returns-in_err-or_removed : goal.returns-in_err-or_removed
+returns-in_err-or_removed g c =
+    then-ok _ c.in_ok-ino.ensures (then-ok _ (of-result c.in_ok-cred.ensures)
+    (then-ok _ (attempts _ (rw (c.empty_path.ensures, c.from_digit.ensures, c.actor_in-actor.ensures) at c.on_once.ensures.did))
+    (then-fails _ c.from_residual-in_err-or_removed.ensures (of-result c.in_err-or_removed.ensures))))
 
 pub returns : goal.returns
 returns g c =
-    then-ok _ c.in_ok-ino.ensures (needs-some _ _ c.in-Some.is
-    (reads _ _ c.has_dentry-has_name.ensures
-    (then-ok _ (rw c.from_digit.ensures at c.in_ok-access_if.ensures.did)
-    (rw c.uid-owner.ensures at c.take_directory.ensures))))
+    then-ok _ c.in_ok-ino.ensures (then-ok _ (of-result c.in_ok-cred.ensures)
+    (then-ok _ (attempts _ (rw (c.empty_path.ensures, c.from_digit.ensures, c.actor_in-actor.ensures) at c.on_once.ensures.did))
+    (then-ok _ (of-result c.in_ok-or_removed.ensures) (rw c.uid-owner.ensures at c.take_directory.ensures))))

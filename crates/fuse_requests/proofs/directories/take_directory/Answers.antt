@@ -1,6 +1,6 @@
-use Rattle.std.proofs.Common.{refl, sym, ◌∙◌}
 use Rattle.fuse_plans.specs.DirectoryPlans.{take_directory}
-use Rattle.fuse_sessions.proofs.Doings.{keeps, reads, reads-last, has-failed}
+use Rattle.fuse_sessions.proofs.Doings.{has-failed, keeps, reads, reads-last}
+use Rattle.std.proofs.Common.{refl, sym, ◌∙◌}
 use Rattle.fuse_requests.proofs.directories.take_directory.Goals as goal
 
 pub returns-then-not-may_open_directory : goal.returns-then-not-may_open_directory
@@ -10,5 +10,5 @@ returns-then-not-may_open_directory g c = reads _ _ (sym c.if-not-may_open_direc
 pub returns : goal.returns
 unfolding take_directory
 returns g c =
-    reads _ _ (sym c.if-not-may_open_directory.false ∙ c.may_open_directory.ensures)
-    (reads _ _ c.next_directory-handle.ensures (keeps _ _ refl c.add_directory.ensures.kept (reads-last _ _ c.opened_body.ensures)))
+    reads _ _ (sym c.if-not-may_open_directory.false ∙ c.may_open_directory.ensures) (reads _ _ c.next_directory-handle.ensures
+    (keeps _ _ refl c.add_directory.ensures.kept (reads-last _ _ c.opened_body.ensures)))

@@ -1,7 +1,6 @@
-use Rattle.std.proofs.Common.{refl}
 use Rattle.fuse_requests.proofs.Answerings.{answers}
-use Rattle.fuse_sessions.proofs.Doings.{starts-as}
+use Rattle.std.proofs.Common.{refl}
 use Rattle.fuse_requests.proofs.dispatch.perform_listing.Goals as goal
 
 pub returns-clause-answered : goal.returns-clause-answered
-returns-clause-answered g c = answers refl (starts-as refl c.in_ok-prepare_for.ensures.kept c.read_directory_plus.ensures) c.response_of.ensures
+returns-clause-answered g c = answers refl c.read_directory_plus.ensures c.response_of.ensures

@@ -1,8 +1,6 @@
 use Rattle.std.specs.Prelude.{◌≡◌, ◌+◌, ◌-◌, ◌<◌, ◌≤◌, ℕ, List, [], ◌∷◌, ◌++◌, length, drop, slice_get, option_and_then, Some, Ok, vec_len}
-use Rattle.std.specs.Ordering.{nat_cmp}
 use Rattle.std.proofs.Common.{refl, sym, ap, subst, ◌∙◌, arith, append_assoc}
 use Rattle.std.proofs.lemmas.List.{append-nil}
-use Rattle.fs_layout.specs.Maps.{get}
 use Rattle.fuse_protocol.specs.Entries.{directory_record_bytes, record_size}
 use Rattle.fuse_state.specs.Servers.{listing_of}
 use Rattle.fuse_plans.specs.ListingOrder.{behind, with_offsets}
@@ -10,7 +8,7 @@ use Rattle.fuse_plans.specs.ListingPlans.{LookedUp, look_up_names, names_within,
 use Rattle.fuse_steps.proofs.Cursors.{next-offset}
 use Rattle.fuse_sessions.specs.Performing.{Did}
 use Rattle.fuse_sessions.proofs.Doings.{same-work}
-use Rattle.fuse_requests.proofs.Listings.{has-some, same-listing, length-told, next-named, records-more, tells-end, tells-next}
+use Rattle.fuse_requests.proofs.Listings.{has-some, length-told, next-named, records-more, tells-end, tells-next}
 use Rattle.fuse_requests.proofs.lookups.look_up_names.Goals as goal
 
 pub loop-next-init : goal.loop-next-init
@@ -26,12 +24,10 @@ loop-next-init g c =
             (same-work (ap (λ names. look_up_names c.args.needs_nobody c.args.place (names_within (c.args.extent.size - vec_len c.args.room) names))
             (c.begin_behind-cursor.ensures.behind listing is)) did),
       );
-      directories = refl;
-      listings = refl;
+      kept = refl;
       capacity = c.requires.fits.1;
       within = omega (arith, empty);
       names = omega (arith, empty, c.requires.fits.2);
-      room = omega (arith, empty, c.requires.fits.2, c.requires.room);
       small = c.begin_behind-cursor.ensures.small;
     }
 
@@ -47,7 +43,7 @@ loop-next-preserved g c =
       told = λ listing is.
           let old = c.loop-next.invariant.told listing is in
           let there : listing_of c.loop-next.session.server.server c.args.extent.handle ≡ Some listing =
-          same-listing c.args.session.now.server.server c.loop-next.session.server.server c.args.extent.handle c.loop-next.invariant.directories c.loop-next.invariant.listings ∙ is in
+          ap (λ s. listing_of s.server c.args.extent.handle) c.loop-next.invariant.kept ∙ is in
           let named : slice_get listing at ≡ Some e.0 = sym (ap (λ o. option_and_then (λ names. slice_get names at) o) there) ∙ e.1 in
           let rest_is : with_offsets c.loop-next.cursor.before (drop at listing) ≡ (c.in-Some.next.before, e.0) ∷ with_offsets c.in-Some.next.before (drop c.in-Some.next.at listing) =
           next-offset c.loop-next.cursor.before c.in-Some.next.before e.0 next.1
@@ -71,12 +67,10 @@ loop-next-preserved g c =
                 (tells-next g.M.Machine.Serves c.args.needs_nobody c.args.place c.args.extent.size held (vec_len c.tell_named.new.bytes)
                 (c.in-Some.next.before, e.0) _ fits later next.0.did did))),
           );
-      directories = ends.directories ∙ c.loop-next.invariant.directories;
-      listings = ends.listings ∙ c.loop-next.invariant.listings;
+      kept = ends.kept ∙ c.loop-next.invariant.kept;
       capacity = ends.capacity;
       within = ends.within refl;
       names = omega (arith, ends.longer refl, ends.names, c.loop-next.invariant.names);
-      room = omega (arith, ends.longer refl, ends.room, c.loop-next.invariant.room);
       small = ends.next.1;
     }
 
@@ -87,7 +81,7 @@ returns g c listing is =
     let ends = c.in_default.ensures in
     let old = c.loop-next.invariant.told listing is in
     let there : listing_of c.loop-next.session.server.server c.args.extent.handle ≡ Some listing =
-    same-listing c.args.session.now.server.server c.loop-next.session.server.server c.args.extent.handle c.loop-next.invariant.directories c.loop-next.invariant.listings ∙ is in
+    ap (λ s. listing_of s.server c.args.extent.handle) c.loop-next.invariant.kept ∙ is in
     let crowds : (e : List ℕ × ℕ) → slice_get listing at ≡ Some e → c.args.extent.size < held + record_size (length e.0) =
     λ e named. omega (arith, ends.crowded e (ap (λ o. option_and_then (λ names. slice_get names at) o) there ∙ named) refl, c.loop-next.bytes.ok.0) in
     let done : Did g.M.Machine.Serves (look_up_names c.args.needs_nobody c.args.place (names_within c.args.extent.size (behind c.args.extent.offset listing)))
@@ -96,7 +90,7 @@ returns g c listing is =
     (tells-end g.M.Machine.Serves c.args.needs_nobody c.args.place c.args.extent.size held c.loop-next.cursor.before at listing c.loop-next.session
     c.loop-next.invariant.within crowds) in (
       old.0 ++ [],
-      c.new.ensures ∙ ends.kept refl ∙ old.1 ∙ ap records_bytes (sym (append-nil old.0)),
+      c.new.ensures ∙ ends.unwritten refl ∙ old.1 ∙ ap records_bytes (sym (append-nil old.0)),
       subst (λ s. Did g.M.Machine.Serves (look_up_names c.args.needs_nobody c.args.place (names_within c.args.extent.size (behind c.args.extent.offset listing)))
           c.args.session.now s (Ok (old.0 ++ []))) (sym (ends.same refl)) done,
     )

@@ -1,4 +1,4 @@
-use Rattle.std.specs.Prelude.{◌≡◌, ◌+◌, ◌-◌, ◌*◌, ◌/◌, ◌^◌, ◌≤◌, ℕ, List, ◌++◌, drop, Some, Ok, vec_len, vec_capacity}
+use Rattle.std.specs.Prelude.{◌≡◌, ◌+◌, ◌-◌, ◌*◌, ◌^◌, ◌≤◌, ℕ, List, ◌++◌, drop, Some, Ok, vec_len, vec_capacity}
 use Rattle.fuse_state.specs.Servers.{listing_of}
 use Rattle.fuse_plans.specs.ListingOrder.{behind, with_offsets}
 use Rattle.fuse_plans.specs.ListingPlans.{LookedUp, look_up_names, names_within, records_bytes}
@@ -16,12 +16,10 @@ invariant-loop-next g l = record {
       l.session fin (Ok rest)
       → Did g.M.Machine.Serves (look_up_names l.needs_nobody l.place (names_within l.extent.size (behind l.extent.offset listing)))
       l.initial.session fin (Ok (found ++ rest)));
-  directories : l.session.server.server.directories ≡ l.initial.session.server.server.directories;
-  listings : l.session.server.server.listings ≡ l.initial.session.server.server.listings;
+  kept : l.session.server ≡ l.initial.session.server;
   capacity : l.extent.size ≤ vec_capacity l.bytes;
   within : vec_len l.bytes ≤ l.extent.size;
   names : l.extent.size ≤ vec_len l.bytes + 152 * l.names + 151;
-  room : l.extent.size ≤ vec_len l.bytes + 152 * (l.session.server.room / 2) + 151;
   small : l.cursor.before ≤ 2 ^ 63 + l.cursor.at;
 }
 

@@ -8,4 +8,4 @@ pub returns-in_err-ino : goal.returns-in_err-ino
 returns-in_err-ino g c = then-ok _ c.in_ok-dir_ino.ensures (then-fails _ c.from_residual-in_err-ino.ensures c.in_err-ino.ensures)
 
 pub returns : goal.returns
-returns g c = then-ok _ c.in_ok-dir_ino.ensures (then-ok _ c.in_ok-ino.ensures c.link_as.ensures)
+returns g c = then-ok _ c.in_ok-dir_ino.ensures (then-ok _ c.in_ok-ino.ensures (c.link_as.ensures))

@@ -1,12 +1,23 @@
-use Rattle.std.proofs.Common.{◌∙◌}
-use Rattle.fuse_sessions.proofs.Doings.{on-machine, then-was, was-fails}
-use Rattle.fuse_steps.proofs.Steps.{some-same}
+use Rattle.fuse_sessions.proofs.Doings.{of-result, on-machine, then-fails, then-ok}
 use Rattle.fuse_requests.proofs.names.make_by.Goals as goal
 
-pub returns-in_err-tried : goal.returns-in_err-tried
-returns-in_err-tried g c name is = was-fails _ c.from_residual.ensures (on-machine c.done_closed-tried.ensures) c.in_err-tried.was
+pub returns-in_err-cred : goal.returns-in_err-cred
+returns-in_err-cred g c =
+    then-ok _ c.new_valid-name_valid.ensures.did (then-fails _ c.from_residual.ensures (of-result c.in_err-cred.ensures))
+
+pub returns-in_err-reply : goal.returns-in_err-reply
+returns-in_err-reply g c =
+    then-ok _ c.new_valid-name_valid.ensures.did (then-ok _ (of-result c.in_ok-cred.ensures)
+    (then-fails _ c.from_residual-in_err-reply.ensures (on-machine (rw c.actor_at-actor.ensures at c.in_err-reply.ensures))))
+
+pub returns-in_err-ino : goal.returns-in_err-ino
+returns-in_err-ino g c =
+    then-ok _ c.new_valid-name_valid.ensures.did (then-ok _ (of-result c.in_ok-cred.ensures)
+    (then-ok _ (on-machine (rw c.actor_at-actor.ensures at c.in_ok-reply.ensures))
+    (then-fails _ c.from_residual-in_err-ino.ensures (of-result c.in_err-ino.ensures))))
 
 pub returns : goal.returns
-returns g c name is =
-    then-was _ (on-machine c.done_closed-tried.ensures) c.in_ok-tried.was
-    (rw (some-same (c.in-Some.ensures ∙ is)) at c.made.ensures)
+returns g c =
+    then-ok _ c.new_valid-name_valid.ensures.did (then-ok _ (of-result c.in_ok-cred.ensures)
+    (then-ok _ (on-machine (rw c.actor_at-actor.ensures at c.in_ok-reply.ensures)) (then-ok _ (of-result c.in_ok-ino.ensures)
+    (c.tell_made.ensures))))

@@ -1,17 +1,22 @@
+use Rattle.fuse_sessions.proofs.Doings.{gives, keeps, of-result, on-machine, then-fails, then-ok, then-was, was-fails}
 use Rattle.std.proofs.Common.{refl}
-use Rattle.fuse_sessions.proofs.Doings.{gives, keeps, on-machine, then-fails, then-ok, then-was, was-fails}
 use Rattle.fuse_requests.proofs.names.remove.Goals as goal
 
 pub returns-in_err-dir_ino : goal.returns-in_err-dir_ino
-returns-in_err-dir_ino g c = then-fails _ c.from_residual.ensures c.in_err-dir_ino.ensures.did
+returns-in_err-dir_ino g c = then-fails _ c.from_residual.ensures c.in_err-dir_ino.ensures
 
-pub returns-in_err-tried : goal.returns-in_err-tried
-returns-in_err-tried g c =
-    then-ok _ c.in_ok-dir_ino.ensures.did
-    (was-fails _ c.from_residual-in_err-tried.ensures (on-machine c.remove_inside-tried.ensures.did) c.in_err-tried.was)
+pub returns-in_err-cred : goal.returns-in_err-cred
+returns-in_err-cred g c =
+    then-ok _ c.in_ok-dir_ino.ensures (then-fails _ c.from_residual-in_err-cred.ensures (of-result c.in_err-cred.ensures))
+
+pub returns-in_err-reply : goal.returns-in_err-reply
+returns-in_err-reply g c =
+    then-ok _ c.in_ok-dir_ino.ensures (then-ok _ (of-result c.in_ok-cred.ensures) (then-ok _ c.number_named-gone.ensures.did
+    (was-fails _ c.from_residual-in_err-reply.ensures (on-machine (rw
+    (c.removal-call.ensures, c.number_named-gone.ensures.name, c.actor_in-actor.ensures) at c.inside-reply.ensures)) c.in_err-reply.was)))
 
 pub returns : goal.returns
 returns g c =
-    then-ok _ c.in_ok-dir_ino.ensures.did
-    (then-was _ (on-machine c.remove_inside-tried.ensures.did) c.in_ok-tried.was
-    (keeps _ _ refl (rw (c.dentry.ensures, c.remove_inside-tried.ensures.name) at c.note_removed.ensures.kept) (gives _ _)))
+    then-ok _ c.in_ok-dir_ino.ensures (then-ok _ (of-result c.in_ok-cred.ensures) (then-ok _ c.number_named-gone.ensures.did
+    (then-was _ (on-machine (rw (c.removal-call.ensures, c.number_named-gone.ensures.name, c.actor_in-actor.ensures) at c.inside-reply.ensures)) c.in_ok-reply.was
+    (keeps _ _ refl c.note_removed.ensures.kept (gives _ _)))))

@@ -1,6 +1,6 @@
-use Rattle.std.proofs.Common.{refl}
 use Rattle.fuse_plans.specs.Serving.{end}
 use Rattle.fuse_sessions.proofs.Doings.{keeps}
+use Rattle.std.proofs.Common.{refl}
 use Rattle.fuse_requests.proofs.whole.end.Goals as goal
 
 pub returns-clause-did : goal.returns-clause-did

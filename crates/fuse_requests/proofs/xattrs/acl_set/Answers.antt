@@ -1,7 +1,7 @@
-use Rattle.std.specs.Prelude.{◌≡◌, ℕ, Some}
-use Rattle.std.proofs.Common.{refl, sym, ap, ◌∙◌}
+use Rattle.fuse_sessions.proofs.Doings.{gives, gives-as, then-fails, then-ok, where-false, where-true}
 use Rattle.posix_acl.specs.AccessList.{AccessList, minimal, with_mode_bits}
-use Rattle.fuse_sessions.proofs.Doings.{then-ok, then-fails, where-true, where-false, gives, gives-as}
+use Rattle.std.proofs.Common.{ap, refl, sym, ◌∙◌}
+use Rattle.std.specs.Prelude.{Some, ℕ, ◌≡◌}
 use Rattle.fuse_requests.proofs.xattrs.acl_set.Goals as goal
 
 plain : (mode : ℕ) → with_mode_bits (minimal 0) mode ≡ minimal mode

@@ -1,22 +1,14 @@
-use Rattle.std.proofs.Common.{ap}
-use Rattle.fuse_plans.specs.AclPlans.{attribute_names}
-use Rattle.fuse_sessions.proofs.Doings.{same-work, then-ok, then-fails, gives-as}
+use Rattle.fuse_sessions.proofs.Doings.{attempts, gives-as, of-result, then-fails, then-ok}
 use Rattle.fuse_requests.proofs.xattrs.attribute_names.Goals as goal
 
-pub returns-then-not-has-clause-did : goal.returns-then-not-has-clause-did
-returns-then-not-has-clause-did g c = same-work (ap (attribute_names c.args.ino) c.if-not-has.true) (gives-as c.told-none.ensures)
+pub returns-in_err-default-in-Ok : goal.returns-in_err-default-in-Ok
+returns-in_err-default-in-Ok g c =
+    then-ok _ (attempts _ c.in-Ok.ensures.did) (then-fails _ c.from_residual.ensures c.in_err-default-in-Ok.ensures.did)
 
-pub returns-in_err-access-clause-did : goal.returns-in_err-access-clause-did
-returns-in_err-access-clause-did g c =
-    same-work (ap (attribute_names c.args.ino) c.if-not-has.false) (then-fails _ c.from_residual.ensures c.in_err-access.ensures.did)
+pub returns-in_ok-default-in-Ok : goal.returns-in_ok-default-in-Ok
+returns-in_ok-default-in-Ok g c =
+    then-ok _ (attempts _ c.in-Ok.ensures.did) (then-ok _ c.in_ok-default-in-Ok.ensures.did (gives-as (rw
+    (c.is_some.ensures, c.is_some-in-Ok.ensures) at c.told.ensures)))
 
-pub returns-in_err-default-clause-did : goal.returns-in_err-default-clause-did
-returns-in_err-default-clause-did g c =
-    same-work (ap (attribute_names c.args.ino) c.if-not-has.false)
-    (then-ok _ c.in_ok-access.ensures.did (then-fails _ c.from_residual-in_err-default.ensures c.in_err-default.ensures.did))
-
-pub returns-clause-did : goal.returns-clause-did
-returns-clause-did g c =
-    same-work (ap (attribute_names c.args.ino) c.if-not-has.false)
-    (then-ok _ c.in_ok-access.ensures.did
-    (then-ok _ c.in_ok-default.ensures.did (gives-as (rw (c.is_some.ensures, c.is_some-2.ensures) at c.told-told.ensures))))
+pub returns-in-Err : goal.returns-in-Err
+returns-in-Err g c = then-ok _ (attempts _ c.in-Err.ensures.did) (of-result (c.no_names_of_link.ensures c.args.ino))

@@ -8,4 +8,4 @@ pub returns-in_default : goal.returns-in_default
 returns-in_default g c = then-ok _ (of-result c.in_ok-which.ensures) (needs-none _ _ _ c.in_default.is)
 
 pub returns : goal.returns
-returns g c = then-ok _ (of-result c.in_ok-which.ensures) (needs-some _ _ c.in-Some.is c.set_acl.ensures)
+returns g c = then-ok _ (of-result c.in_ok-which.ensures) (needs-some _ _ c.in-Some.is (c.set_acl.ensures))

@@ -8,4 +8,5 @@ pub returns-in_default : goal.returns-in_default
 returns-in_default g c = then-ok _ c.in_ok-found.ensures.did (needs-none _ _ _ c.in_default.is)
 
 pub returns : goal.returns
-returns g c = then-ok _ c.in_ok-found.ensures.did (needs-some _ _ c.in-Some.is (of-result (rw c.acl_size-has.ensures at c.sized.ensures)))
+returns g c =
+    then-ok _ c.in_ok-found.ensures.did (needs-some _ _ c.in-Some.is (of-result (rw c.acl_size-has.ensures at c.sized.ensures)))

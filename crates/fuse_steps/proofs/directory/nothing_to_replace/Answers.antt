@@ -9,4 +9,4 @@ returns-then-flags-eq0-clause-did g c = machine-true _ _ (ap (λ (n : ℕ). n ==
 
 pub returns-clause-did : goal.returns-clause-did
 returns-clause-did g c =
-    machine-false _ _ (ne_eqb _ _ c.if-flags-eq0.false) (machine-ok _ (machine-attempts _ c.inside-there.ensures.did) (machine-result c.none_there.ensures))
+    machine-false _ _ (ne_eqb _ _ c.if-flags-eq0.false) (machine-ok _ (machine-attempts _ c.inside.ensures) (machine-result c.none_there-there.ensures))

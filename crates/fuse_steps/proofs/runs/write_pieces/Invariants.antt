@@ -1,7 +1,6 @@
-use Rattle.std.specs.Prelude.{ℕ, ◌+◌, ◌-◌, ◌≤◌, Result, length, map, min}
-use Rattle.fs_model.specs.declared.call.Call.TheVariants.{Write}
+use Rattle.std.specs.Prelude.{ℕ, ◌+◌, ◌-◌, ◌/◌, ◌≤◌, Result, length, min}
 use Rattle.fuse_plans.specs.declared.request_error.RequestError.{RequestError}
-use Rattle.fuse_plans.specs.FilePlans.{write_pieces, writes_of, pieces_in, pieces_of}
+use Rattle.fuse_plans.specs.FilePlans.{write_pieces, pieces_in, pieces_of}
 use Rattle.fuse_steps.specs.Performing.{DidByMachine}
 use Rattle.fuse_steps.proofs.runs.write_pieces.Given as goal
 
@@ -9,6 +8,6 @@ use Rattle.fuse_steps.proofs.runs.write_pieces.Given as goal
 abbrev pub invariant-loop-round : goal.invariant-loop-round
 invariant-loop-round g l =
     ((fin : g.row.M.Denot) (r : Result ℕ RequestError)
-    → DidByMachine g.M.Machine.Serves (write_pieces l.file.pid l.done (map (Write l.file.fd) (pieces_in l.most (pieces_of l.most (length l.bytes) - l._round) l.rest))) l.machine fin r
-    → DidByMachine g.M.Machine.Serves (write_pieces l.file.pid 0 (writes_of l.most l.file.fd l.bytes)) l.initial.machine fin r)
+    → DidByMachine g.M.Machine.Serves (write_pieces l.handle l.offset l.done (pieces_in l.most (length l.bytes / l.most + 1 - l._round) l.rest)) l.machine fin r
+    → DidByMachine g.M.Machine.Serves (write_pieces l.handle l.offset 0 (pieces_of l.most l.bytes)) l.initial.machine fin r)
     × (l.done + length l.rest ≤ length l.bytes) × (min (length l.rest) l.most ≤ length l.room)

@@ -1,3 +1,5 @@
+use Rattle.fs_model.specs.Processes.{ProcessTable}
+use Rattle.call_parts.specs.BothTables.{both}
 use Rattle.std.specs.Prelude.{Result}
 use Rattle.std.proofs.Common.{sym, ap, subst}
 use Rattle.fs_cred.specs.declared.refusal.Refusal.{Refusal}
@@ -5,7 +7,7 @@ use Rattle.fs_model.specs.declared.call.Call.TheVariants.{Chdir}
 use Rattle.fs_model.specs.declared.reply.Reply.{Reply}
 use Rattle.path_walk.proofs.Kept.{is_err}
 use Rattle.call_parts.specs.declared.reaching.Caller.{Caller}
-use Rattle.call_parts.specs.Callers.{ByProcess}
+use Rattle.call_parts.specs.Callers.{ByProcess, ByCaller}
 use Rattle.call_parts.specs.Performing.{Performs}
 use Rattle.name_calls.proofs.making.chdir.Goals as goal
 
@@ -18,7 +20,7 @@ returns-in_err-ino-clause-performs g c =
     let old = g.S.Sectors.state c.args.s.now in
     let new = g.S.Sectors.state c.directory_at.new.s in
     let refused = rw c.caller-caller.ensures at c.in_err-ino.ensures.refused in
-    subst (λ (x : Result Reply Refusal). Performs c.args.asker.geometry c.args.asker.time (ByProcess c.args.asker.pid) (Chdir c.args.path.now) old new c.args.procs.now c.args.procs.now x)
+    subst (λ (x : Result Reply Refusal). Performs c.args.site.geometry c.args.site.time (ByCaller (ByProcess c.args.pid) (Chdir c.args.path.now)) old new (both c.args.procs.now c.args.openings.now.0) (both c.args.procs.now c.args.openings.now.0) x)
     (sym (is_err c.from_residual.result c.in_err-ino.field-0.0 r.0 r.1)) refused
 
 pub stand_at-requires : goal.stand_at-requires
@@ -27,4 +29,4 @@ stand_at-requires g c = record { found = rw c.caller-caller.ensures at c.in_ok-i
 pub returns-clause-performs : goal.returns-clause-performs
 returns-clause-performs g c =
     let entered = rw c.caller-caller.ensures at c.in_ok-ino.ensures.entered in
-    entered c.stand_at.new.self c.stand_at.ensures.set
+    entered (both c.stand_at.new.self c.args.openings.now.0) (ap (λ (m : ProcessTable). both m c.args.openings.now.0) c.stand_at.ensures.set)

@@ -1,4 +1,5 @@
-use Rattle.std.proofs.Common.{◌≡◌, arith, ◌∙◌}
+use Rattle.call_parts.specs.BothTables.{tables_of}
+use Rattle.std.proofs.Common.{refl, ◌≡◌, arith, ◌∙◌}
 use Rattle.fs_layout.specs.Bytes.{SectorMap}
 use Rattle.fs_layout.specs.Images.{inode_at}
 use Rattle.fs_model.specs.declared.reply.Reply.TheVariants.{Done}
@@ -55,7 +56,7 @@ touch-requires g c =
     let added = c.in_ok-add_name.ensures in
     let finds = finds_each w w.ready.state w.ready.is_state in
     let told = link_told w.ready.state (c.in_ok-ino.ensures.each w.ready.state finds) in
-    may_touch {now = c.args.caller.now.procs.now} w.ready (store_joined same.store added.store) (link_changed same added.made finds told)
+    may_touch {now = tables_of c.args.caller.now} w.ready (store_joined same.store added.store) (link_changed same added.made finds told)
     (linked_below (g.S.Sectors.state c.args.s.now) w.ready.is_state (link_may finds told)) 5 (taken_after c.args.caller.now.geometry 5 (g.S.Sectors.state c.add_name.new.s) same added.taken) (omega arith)
 
 pub returns-in_err-touch : goal.returns-in_err-touch
@@ -67,7 +68,7 @@ pub returns : goal.returns
 returns g c = λ old_path new_path w.
     let same = c.in_ok-ino.ensures.same in
     let added = c.in_ok-add_name.ensures in
-    both_performs (link_by_two old_path new_path) unchanged_nothing w (g.S.Sectors.state c.add_name.new.s) (store_joined same.store added.store)
+    both_performs (link_by_two old_path new_path) unchanged_nothing w refl (g.S.Sectors.state c.add_name.new.s) (store_joined same.store added.store)
     (added.made.super ∙ same.sectors 0) c.in_ok-touch.ensures.made Done
     (λ s has at.
     let finds = finds_each w s at in

@@ -1,10 +1,11 @@
 use Rattle.std.specs.Prelude.{[]}
-use Rattle.std.proofs.Common.{sym}
+use Rattle.std.proofs.Common.{sym, ◌∙◌}
+use Rattle.call_parts.specs.Callers.{who_of}
 use Rattle.fs_model.specs.Scenes.{must_be_new}
 use Rattle.call_parts.proofs.NewNames.{name_found, name_refused, made_refused}
 use Rattle.call_parts.proofs.Reachings.{walk_refused, broken_later}
 use Rattle.call_parts.proofs.Refuses.{refuses_first}
-use Rattle.name_calls.proofs.BornDirectories.{mkdir_by_path, directory_name_asked, is_new_name, directory_may_touch, directory_was_made}
+use Rattle.name_calls.proofs.BornDirectories.{mkdir_by_path, directory_name_asked, is_new_name, directory_may_touch, directory_was_made, told_directory}
 use Rattle.name_calls.proofs.making.mkdir.Goals as goal
 
 pub returns-in_err-walked : goal.returns-in_err-walked
@@ -46,4 +47,4 @@ returns-in_err-touch g c =
 pub returns : goal.returns
 returns g c =
     let x = c.in_ok-walked.ensures in
-    directory_was_made c.args.mode c.check_mode-checks.ensures x.same x.walked (sym c.in_ok-check_new.ensures) c.in_ok-ino.ensures c.in_ok-touch.ensures.made
+    directory_was_made c.args.mode c.check_mode-checks.ensures x.same x.walked (sym c.in_ok-check_new.ensures) c.in_ok-ino.ensures c.made.result (told_directory (who_of c.args.caller.now.by) c.args.path.now c.args.mode c.in_ok-ino.ino ∙ sym c.made.ensures) c.in_ok-touch.ensures.made

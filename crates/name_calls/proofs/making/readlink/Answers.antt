@@ -1,4 +1,4 @@
-use Rattle.std.proofs.Common.{ℕ, sym, ap, List, inr}
+use Rattle.std.proofs.Common.{refl, ℕ, sym, ap, List, inr}
 use Rattle.fs_model.specs.declared.reply.Reply.TheVariants.{Target}
 use Rattle.fs_model.specs.Scenes.{answers}
 use Rattle.bit_alloc.proofs.Transactions.{unchanged_joined}
@@ -52,7 +52,7 @@ returns-clause-performs g c =
     let v = c.in_ok-reached.reached in
     let target = c.in_ok-target.target in
     let is = sym c.in_ok-check_is_link.ensures in
-    told (readlink_by_path c.args.path.now) x.same x.reached.walked (g.S.Sectors.state c.read_target.new.s) c.in_ok-target.ensures.same (Target target)
+    told (readlink_by_path c.args.path.now) x.same x.reached.walked refl (g.S.Sectors.state c.read_target.new.s) c.in_ok-target.ensures.same (Target target)
     (λ s has at.
     let i = x.reached.inode in
     let there = reached_there x.reached s at in

@@ -1,9 +1,10 @@
-use Rattle.std.proofs.Common.{sym}
+use Rattle.std.proofs.Common.{sym, ◌∙◌}
+use Rattle.call_parts.specs.Callers.{who_of}
 use Rattle.fs_model.specs.Demands.{first_of}
 use Rattle.call_parts.specs.NewNodes.{link_name_asked}
 use Rattle.call_parts.proofs.NewNames.{name_found, name_refused, made_refused}
 use Rattle.call_parts.proofs.Reachings.{walk_refused, broken_later}
-use Rattle.name_calls.proofs.BornLinks.{symlink_by_path, is_target, is_link_name, link_may_touch, link_was_made}
+use Rattle.name_calls.proofs.BornLinks.{symlink_by_path, is_target, is_link_name, link_may_touch, link_was_made, told_link}
 use Rattle.name_calls.proofs.making.symlink.Goals as goal
 
 pub returns-in_err-walked : goal.returns-in_err-walked
@@ -55,4 +56,4 @@ pub returns : goal.returns
 returns g c =
     let x = c.in_ok-walked.ensures in
     let are = c.check_target-checks.ensures in
-    link_was_made c.args.target.now are.bytes are.answer x.same x.walked (sym c.in_ok-check_link_name.ensures) c.in_ok-ino.ensures c.in_ok-touch.ensures.made
+    link_was_made c.args.target.now are.bytes are.answer x.same x.walked (sym c.in_ok-check_link_name.ensures) c.in_ok-ino.ensures c.made.result (told_link (who_of c.args.caller.now.by) c.args.target.now c.args.path.now c.in_ok-ino.ino ∙ sym c.made.ensures) c.in_ok-touch.ensures.made

@@ -1,3 +1,4 @@
+use Rattle.call_parts.specs.BothTables.{tables_of}
 use Rattle.std.proofs.Common.{◌≡◌, arith, ◌∙◌}
 use Rattle.fs_layout.specs.Bytes.{SectorMap}
 use Rattle.fs_layout.specs.Images.{inode_at}
@@ -10,7 +11,7 @@ use Rattle.call_parts.proofs.Reachings.{asked_refused, asked_broken, broken_late
 use Rattle.name_calls.specs.Removing.{MayGoAt}
 use Rattle.call_parts.proofs.Alterings.{ready_later}
 use Rattle.name_calls.proofs.Takings.{dir_below, is_number}
-use Rattle.name_calls.proofs.RemovalRows.{removes_by_path, finds_name, target_found, target_may, target_gone}
+use Rattle.name_calls.proofs.RemovalRows.{removes_by_path, never_told, finds_name, target_found, target_may, target_gone}
 use Rattle.bit_alloc.proofs.Transactions.{unchanged_nothing}
 use Rattle.name_calls.proofs.removal.remove_walked.Goals as goal
 
@@ -54,7 +55,7 @@ touch-requires g c =
     let finds = finds_name w.bytes at (w.found s at) in
     let asked = c.in_ok-ino.ensures.each s finds in
     let may = target_may finds c.args.what asked in
-    may_touch {now = c.args.caller.now.procs.now} w.ready (store_joined same.store taken.store) (target_gone c.args.what same taken.made finds asked)
+    may_touch {now = tables_of c.args.caller.now} w.ready (store_joined same.store taken.store) (target_gone c.args.what same taken.made finds asked)
     (dir_below mid at may, ((is_number mid at may).1, tt)) 6 (taken_after c.args.caller.now.geometry 6 (g.S.Sectors.state c.take_name.new.s) same taken.taken) (omega arith)
 
 pub returns-in_err-touch : goal.returns-in_err-touch
@@ -66,6 +67,6 @@ pub returns : goal.returns
 returns g c = λ path w.
     let same = c.in_ok-ino.ensures.same in
     let taken = c.in_ok-take_name.ensures in
-    has_changed (removes_by_path c.args.what path) unchanged_nothing w (g.S.Sectors.state c.take_name.new.s) (store_joined same.store taken.store)
+    has_changed (removes_by_path c.args.what path) unchanged_nothing w (never_told c.args.what path) (g.S.Sectors.state c.take_name.new.s) (store_joined same.store taken.store)
     (taken.made.super ∙ same.sectors 0) c.in_ok-touch.ensures.made Done
     (λ s has at. let finds = finds_name w.bytes at has in target_gone c.args.what same taken.made finds (c.in_ok-ino.ensures.each s finds))

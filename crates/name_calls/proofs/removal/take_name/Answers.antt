@@ -1,3 +1,4 @@
+use Rattle.call_parts.specs.BothTables.{users_of, tables_of}
 use Rattle.std.proofs.Common.{◌≢◌, ◌≤◌, refl, sym, arith, subst, ◌∙◌}
 use Rattle.fs_layout.specs.declared.inode.Inode.{Inode}
 use Rattle.fs_layout.specs.declared.inode.Kind.TheVariants as kinds
@@ -53,5 +54,5 @@ returns g c =
     altered tt 5 1 (omega arith) c.in_ok-remove_found.ensures.store removes.touches.puts.room lost.store (lost_sound lost.made) touches.puts.room
     (record {
       super = touches.super ∙ removes.touches.super;
-      holds = λ st at may. taken_holds old at may removes (is_open c.args.caller.now.procs.now c.args.ino) refl lost.made;
+      holds = λ st at may. taken_holds old at may removes (is_open (users_of (tables_of c.args.caller.now)) c.args.ino) refl lost.made;
     })

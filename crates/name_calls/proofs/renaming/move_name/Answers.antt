@@ -1,3 +1,4 @@
+use Rattle.call_parts.specs.BothTables.{users_of, tables_of}
 use Rattle.std.proofs.Common.{◌≢◌, ◌≤◌, refl, subst, sym, arith, ◌∙◌}
 use Rattle.fs_layout.specs.declared.inode.Inode.{Inode}
 use Rattle.fs_layout.specs.declared.inode.Kind.TheVariants as kinds
@@ -74,7 +75,7 @@ returns-in_ok-lose_name g c =
       taken = (let first = entry.taken in let then = follows.taken in let last = (lost_touches lost.made).puts.room in omega (arith, first, then, last));
       made = record {
         super = (lost_touches lost.made).super ∙ follow_super follows.made ∙ entry_super old x.0.is_state x.1 entry.made;
-        holds = λ st at may. replaced_holds old at may entry.made follows.made there.0 (is_open c.args.caller.now.procs.now c.in-Some.m) refl lost.made;
+        holds = λ st at may. replaced_holds old at may entry.made follows.made there.0 (is_open (users_of (tables_of c.args.caller.now)) c.in-Some.m) refl lost.made;
       };
       fault = tt;
     }

@@ -1,4 +1,5 @@
-use Rattle.std.proofs.Common.{◌≡◌, false, sym, ◌∙◌}
+use Rattle.call_parts.specs.BothTables.{tables_of}
+use Rattle.std.proofs.Common.{refl, ◌≡◌, false, sym, ◌∙◌}
 use Rattle.fs_layout.specs.Bytes.{SectorMap}
 use Rattle.fs_layout.specs.Images.{inode_at}
 use Rattle.fs_model.specs.declared.reply.Reply.TheVariants.{Done}
@@ -34,7 +35,7 @@ pub returns-then-is_same : goal.returns-then-is_same
 returns-then-is_same g c = λ old_path new_path w.
     let q = c.args.walked.now.process in
     let same = c.in_ok-ino.ensures.same in
-    both_performs (rename_by_two old_path new_path) unchanged_nothing w (g.S.Sectors.state c.check_rename.new.s) same.store (same.sectors 0)
+    both_performs (rename_by_two old_path new_path) unchanged_nothing w refl (g.S.Sectors.state c.check_rename.new.s) same.store (same.sectors 0)
     (none_moved (g.S.Sectors.state c.check_rename.new.s)) Done
     (λ s has at.
     let told = rename_told (finds_each w s at) (c.in_ok-ino.ensures.each s (finds_each w s at)) in
@@ -76,7 +77,7 @@ touch_moved-requires g c =
     let at = w.ready.is_state in
     let finds = finds_each w s at in
     let told = rename_told finds (c.in_ok-ino.ensures.each s finds) in
-    may_touch {now = c.args.caller.now.procs.now} w.ready (store_joined same.store moved.store) (rename_changed same moved.made finds told apart)
+    may_touch {now = tables_of c.args.caller.now} w.ready (store_joined same.store moved.store) (rename_changed same moved.made finds told apart)
     (touched_below mid at (may_move finds told apart)) 11 (taken_after c.args.caller.now.geometry 11 (g.S.Sectors.state c.move_name.new.s) same moved.taken)
     (few_renamed a.dir_ino b.dir_ino c.in_ok-ino.ino b.ino)
 
@@ -89,7 +90,7 @@ pub returns : goal.returns
 returns g c = λ old_path new_path w.
     let same = c.in_ok-ino.ensures.same in
     let moved = c.in_ok-move_name.ensures in
-    both_performs (rename_by_two old_path new_path) unchanged_nothing w (g.S.Sectors.state c.move_name.new.s) (store_joined same.store moved.store)
+    both_performs (rename_by_two old_path new_path) unchanged_nothing w refl (g.S.Sectors.state c.move_name.new.s) (store_joined same.store moved.store)
     (moved.made.super ∙ same.sectors 0) c.in_ok-touch_moved.ensures.made Done
     (λ s has at.
     let finds = finds_each w s at in

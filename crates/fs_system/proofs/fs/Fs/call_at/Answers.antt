@@ -1,3 +1,4 @@
+use Rattle.call_parts.specs.BothTables.{both}
 use Rattle.std.proofs.Common.{sym, refl, ◌∙◌}
 use Rattle.sector_txn.specs.Stores.{disk_after}
 use Rattle.fs_model.specs.declared.event.Event.TheVariants.{CallAt}
@@ -17,8 +18,8 @@ perform_kept-reply-requires g c = record { running = taken_runs g.met.D.Disk.onl
 
 pub invariant_of-self : goal.invariant_of-self
 invariant_of-self g c = event_system g.met.D.Disk.only_now c.self.invariant c.self.view_is c.take-store.ensures (CallAt c.args.actor.now c.args.call.now) c.perform_kept-reply.result.0
-    c.perform_kept-reply.result.1 c.perform_kept-reply.new.procs c.put.ensures c.perform_kept-reply.ensures.does (g.met.D.Disk.counts_now (disk_after c.perform_kept-reply.result.1))
+    c.perform_kept-reply.result.1 (both c.perform_kept-reply.new.procs c.perform_kept-reply.new.openings.0) c.put.ensures c.perform_kept-reply.ensures.does (g.met.D.Disk.counts_now (disk_after c.perform_kept-reply.result.1))
 
 pub returns-clause-does : goal.returns-clause-does
 returns-clause-does g c = event_happens g.met.D.Disk.only_now c.self.invariant c.self.view_is c.take-store.ensures (CallAt c.args.actor.now c.args.call.now) c.perform_kept-reply.result.0
-    c.perform_kept-reply.result.1 c.perform_kept-reply.new.procs c.put.ensures c.perform_kept-reply.ensures.does
+    c.perform_kept-reply.result.1 (both c.perform_kept-reply.new.procs c.perform_kept-reply.new.openings.0) c.put.ensures c.perform_kept-reply.ensures.does

@@ -1,3 +1,4 @@
+use Rattle.call_parts.specs.BothTables.{both}
 use Rattle.std.proofs.Common.{sym, refl, ◌∙◌}
 use Rattle.sector_txn.specs.Stores.{disk_after}
 use Rattle.fs_model.specs.declared.event.Event.TheVariants.{Exit}
@@ -17,8 +18,8 @@ exit_kept-done-requires g c = record { running = taken_runs g.met.D.Disk.only_no
 
 pub invariant_of-self : goal.invariant_of-self
 invariant_of-self g c = event_system g.met.D.Disk.only_now c.self.invariant c.self.view_is c.take-store.ensures (Exit c.args.pid) (finished c.exit_kept-done.result.0)
-    c.exit_kept-done.result.1 c.exit_kept-done.new.procs c.put.ensures (λ s r told. c.exit_kept-done.ensures.does s r) (g.met.D.Disk.counts_now (disk_after c.exit_kept-done.result.1))
+    c.exit_kept-done.result.1 (both c.exit_kept-done.new.procs c.self.inside.openings.0) c.put.ensures (λ s r told. c.exit_kept-done.ensures.does s r) (g.met.D.Disk.counts_now (disk_after c.exit_kept-done.result.1))
 
 pub returns-clause-does : goal.returns-clause-does
 returns-clause-does g c = event_happens g.met.D.Disk.only_now c.self.invariant c.self.view_is c.take-store.ensures (Exit c.args.pid) (finished c.exit_kept-done.result.0)
-    c.exit_kept-done.result.1 c.exit_kept-done.new.procs c.put.ensures (λ s r told. c.exit_kept-done.ensures.does s r)
+    c.exit_kept-done.result.1 (both c.exit_kept-done.new.procs c.self.inside.openings.0) c.put.ensures (λ s r told. c.exit_kept-done.ensures.does s r)

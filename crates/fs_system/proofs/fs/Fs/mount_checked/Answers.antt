@@ -1,4 +1,6 @@
-use Rattle.std.proofs.Common.{sym, subst, arith, ◌∙◌}
+use Rattle.call_parts.specs.BothTables.{both}
+use Rattle.fs_model.specs.Processes.{ProcessTable, Openings}
+use Rattle.std.proofs.Common.{[], ap, sym, subst, arith, ◌∙◌}
 use Rattle.sector_disk.specs.Disk.{LeavesOnly}
 use Rattle.sector_disk.proofs.Moments.{failed_later}
 use Rattle.fs_layout.specs.Geometry.{IsGeometry}
@@ -51,24 +53,26 @@ returns-in-Ok-sweep-clause-mounted g c =
     let first = c.read_geometry.ensures.cause.later in
     let then = c.in-Ok-open_store.ensures.later in
     let last = c.in-Ok-sweep.ensures.cause.later in
-    subst (λ (x : StoreView g.row.D.Denot). (s : State) × IsIn g.D.Disk.state (record { base = Running x; geometry = c.in-Ok.geometry; processes = c.new-in-Ok-sweep.result; time = 0 }) s
+    subst (λ (x : StoreView g.row.D.Denot). (s : State) × IsIn g.D.Disk.state (record { base = Running x; geometry = c.in-Ok.geometry; processes = c.new-in-Ok-sweep.result; openings = c.new-in-Ok-sweep-2.result.0; time = 0 }) s
     × Mounts (g.D.Disk.state c.args.disk) (g.D.Disk.state x.disk) s) (sym c.uncounted.ensures)
     (mounts_found g.D.Disk.state c.args.disk c.read_geometry.new.disk c.in-Ok-open_store.store (g.met.D.Disk.seen_is_image c.args.disk) c.requires
     c.read_geometry.ensures.same c.in-Ok-open_store.ensures.size c.in-Ok-open_store.ensures.map c.in-Ok-open_store.ensures.lasting c.in-Ok.geometry c.in-Ok.ensures.found
     c.in-Ok-sweep.store c.in-Ok-sweep.ensures.swept c.in-Ok-sweep.ensures.lasting (omega (arith, first, then, last))
-    (c.in-Ok-sweep.ensures.quiet ∙ c.in-Ok-open_store.ensures.quiet ∙ c.read_geometry.ensures.quiet) c.new-in-Ok-sweep.result c.new-in-Ok-sweep.ensures)
+    (c.in-Ok-sweep.ensures.quiet ∙ c.in-Ok-open_store.ensures.quiet ∙ c.read_geometry.ensures.quiet) (both c.new-in-Ok-sweep.result c.new-in-Ok-sweep-2.result.0)
+    (ap (λ (d : ProcessTable). both d c.new-in-Ok-sweep-2.result.0) c.new-in-Ok-sweep.ensures ∙ ap (λ (o : Openings). both [] o) c.new-in-Ok-sweep-2.ensures))
 
 pub invariant_of-result : goal.invariant_of-result
 invariant_of-result g c =
     let first = c.read_geometry.ensures.cause.later in
     let then = c.in-Ok-open_store.ensures.later in
     let last = c.in-Ok-sweep.ensures.cause.later in
-    subst (λ (x : StoreView g.row.D.Denot). IsSystem g.D.Disk.state (record { base = Running x; geometry = c.in-Ok.geometry; processes = c.new-in-Ok-sweep.result; time = 0 }))
+    subst (λ (x : StoreView g.row.D.Denot). IsSystem g.D.Disk.state (record { base = Running x; geometry = c.in-Ok.geometry; processes = c.new-in-Ok-sweep.result; openings = c.new-in-Ok-sweep-2.result.0; time = 0 }))
     (sym c.uncounted.ensures)
     (mounted_system g.D.Disk.state c.args.disk c.read_geometry.new.disk c.in-Ok-open_store.store (g.met.D.Disk.seen_is_image c.args.disk) c.requires
     c.read_geometry.ensures.same c.in-Ok-open_store.ensures.size c.in-Ok-open_store.ensures.map c.in-Ok-open_store.ensures.lasting c.in-Ok.geometry c.in-Ok.ensures.found
     c.in-Ok-sweep.store c.in-Ok-sweep.ensures.swept c.in-Ok-sweep.ensures.lasting (omega (arith, first, then, last))
-    (c.in-Ok-sweep.ensures.quiet ∙ c.in-Ok-open_store.ensures.quiet ∙ c.read_geometry.ensures.quiet) c.new-in-Ok-sweep.result c.new-in-Ok-sweep.ensures)
+    (c.in-Ok-sweep.ensures.quiet ∙ c.in-Ok-open_store.ensures.quiet ∙ c.read_geometry.ensures.quiet) (both c.new-in-Ok-sweep.result c.new-in-Ok-sweep-2.result.0)
+    (ap (λ (d : ProcessTable). both d c.new-in-Ok-sweep-2.result.0) c.new-in-Ok-sweep.ensures ∙ ap (λ (o : Openings). both [] o) c.new-in-Ok-sweep-2.ensures))
 
 pub returns-in-Err-sweep-clause-any_moment : goal.returns-in-Err-sweep-clause-any_moment
 returns-in-Err-sweep-clause-any_moment g c =

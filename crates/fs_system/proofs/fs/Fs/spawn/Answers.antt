@@ -1,3 +1,4 @@
+use Rattle.call_parts.specs.BothTables.{both}
 use Rattle.std.proofs.Common.{refl, sym, subst, ◌∙◌}
 use Rattle.fs_cred.specs.Credentials.{IsCredential}
 use Rattle.fs_model.specs.declared.event.Event.TheVariants.{Spawn}
@@ -11,13 +12,13 @@ returns-then-is_halted-clause-does g c =
 pub invariant_of-self : goal.invariant_of-self
 invariant_of-self g c =
     let given = c.spawn.ensures in
-    spawn_system g.D.Disk.state g.met.D.Disk.only_now c.self.inside.base c.self.inside.geometry c.self.inside.procs c.self.inside.time c.args.self.now c.self.view_is
+    spawn_system g.D.Disk.state g.met.D.Disk.only_now c.self.inside.base c.self.inside.geometry (both c.self.inside.procs c.self.inside.openings.0) c.self.inside.time c.args.self.now c.self.view_is
     (sym c.is_halted.ensures ∙ c.if-is_halted.false) c.args.cred (subst IsCredential c.cred.view_is c.cred.invariant) c.spawn.new.self c.spawn.result
     given.number given.added given.full given.refused given.same c.self.invariant
 
 pub returns-clause-does : goal.returns-clause-does
 returns-clause-does g c =
     let given = c.spawn.ensures in
-    spawn_returns g.D.Disk.state g.met.D.Disk.only_now c.self.inside.base c.self.inside.geometry c.self.inside.procs c.self.inside.time c.args.self.now c.self.view_is
+    spawn_returns g.D.Disk.state g.met.D.Disk.only_now c.self.inside.base c.self.inside.geometry (both c.self.inside.procs c.self.inside.openings.0) c.self.inside.time c.args.self.now c.self.view_is
     (sym c.is_halted.ensures ∙ c.if-is_halted.false) c.args.cred (subst IsCredential c.cred.view_is c.cred.invariant) c.spawn.new.self c.spawn.result
     given.number given.added given.full given.refused given.same

@@ -1,3 +1,4 @@
+use Rattle.call_parts.specs.BothTables.{both}
 use Rattle.std.proofs.Common.{sym, refl, ◌∙◌}
 use Rattle.sector_txn.specs.Stores.{disk_after}
 use Rattle.fs_model.specs.declared.event.Event.TheVariants.{Stamp}
@@ -17,8 +18,8 @@ stamp_kept-stamps-requires g c = record { running = taken_runs g.met.D.Disk.only
 
 pub invariant_of-self : goal.invariant_of-self
 invariant_of-self g c = event_system g.met.D.Disk.only_now c.self.invariant c.self.view_is c.take-store.ensures (Stamp c.args.ino c.args.atime c.args.mtime c.args.ctime) (stamped_reply c.stamp_kept-stamps.result.0)
-    c.stamp_kept-stamps.result.1 c.self.inside.procs c.put.ensures (λ s r told. c.stamp_kept-stamps.ensures.does s r) (g.met.D.Disk.counts_now (disk_after c.stamp_kept-stamps.result.1))
+    c.stamp_kept-stamps.result.1 (both c.self.inside.procs c.self.inside.openings.0) c.put.ensures (λ s r told. c.stamp_kept-stamps.ensures.does s r) (g.met.D.Disk.counts_now (disk_after c.stamp_kept-stamps.result.1))
 
 pub returns-clause-does : goal.returns-clause-does
 returns-clause-does g c = event_happens g.met.D.Disk.only_now c.self.invariant c.self.view_is c.take-store.ensures (Stamp c.args.ino c.args.atime c.args.mtime c.args.ctime) (stamped_reply c.stamp_kept-stamps.result.0)
-    c.stamp_kept-stamps.result.1 c.self.inside.procs c.put.ensures (λ s r told. c.stamp_kept-stamps.ensures.does s r)
+    c.stamp_kept-stamps.result.1 (both c.self.inside.procs c.self.inside.openings.0) c.put.ensures (λ s r told. c.stamp_kept-stamps.ensures.does s r)

@@ -1,3 +1,4 @@
+use Rattle.call_parts.specs.BothTables.{both}
 use Rattle.std.proofs.Common.{Ok, sym, refl, ◌∙◌}
 use Rattle.fs_model.specs.declared.event.Event.TheVariants.{Statfs}
 use Rattle.fs_system.specs.Replies.{counted}
@@ -16,8 +17,8 @@ count_space-free-requires g c = record { running = taken_runs g.met.D.Disk.only_
 
 pub invariant_of-self : goal.invariant_of-self
 invariant_of-self g c = event_system g.met.D.Disk.only_now c.self.invariant c.self.view_is c.take-store.ensures Statfs (counted c.count_space-free.result.0)
-    (Ok c.count_space-free.result.1) c.self.inside.procs c.put.ensures (λ s r told. let done = c.count_space-free.ensures.does s r in (s, (done.0, refl), done.1)) (g.met.D.Disk.counts_now c.count_space-free.result.1.disk)
+    (Ok c.count_space-free.result.1) (both c.self.inside.procs c.self.inside.openings.0) c.put.ensures (λ s r told. let done = c.count_space-free.ensures.does s r in (s, (done.0, refl), done.1)) (g.met.D.Disk.counts_now c.count_space-free.result.1.disk)
 
 pub returns-clause-does : goal.returns-clause-does
 returns-clause-does g c = event_happens g.met.D.Disk.only_now c.self.invariant c.self.view_is c.take-store.ensures Statfs (counted c.count_space-free.result.0)
-    (Ok c.count_space-free.result.1) c.self.inside.procs c.put.ensures (λ s r told. let done = c.count_space-free.ensures.does s r in (s, (done.0, refl), done.1))
+    (Ok c.count_space-free.result.1) (both c.self.inside.procs c.self.inside.openings.0) c.put.ensures (λ s r told. let done = c.count_space-free.ensures.does s r in (s, (done.0, refl), done.1))

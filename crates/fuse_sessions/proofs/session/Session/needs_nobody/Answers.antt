@@ -2,7 +2,7 @@ use Rattle.std.specs.Prelude.{Bool, not}
 use Rattle.std.proofs.Common.{refl, sym, subst}
 use Rattle.fuse_plans.specs.Plans.{CarriesOut}
 use Rattle.fuse_plans.specs.Nobody.{needs_nobody}
-use Rattle.fuse_plans.proofs.NobodyConducts.{decided_at_once}
+use Rattle.fuse_plans.proofs.NeedsNobody.{decided_at_once}
 use Rattle.fuse_sessions.proofs.session.Session.needs_nobody.Goals as goal
 
 pub returns-in_default : goal.returns-in_default

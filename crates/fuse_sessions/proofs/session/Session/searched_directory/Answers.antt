@@ -6,4 +6,4 @@ returns-in_err-plain_name g c = then-fails _ c.from_residual.ensures (of-result 
 
 pub returns : goal.returns
 returns g c =
-    then-ok _ (of-result c.in_ok-plain_name.ensures) (then-ok _ (attempts _ c.standing_directory.ensures) (of-result c.or_absent.ensures))
+    then-ok _ (of-result c.in_ok-plain_name.ensures) (then-ok _ (attempts _ c.the_number.ensures) (of-result c.or_absent.ensures))

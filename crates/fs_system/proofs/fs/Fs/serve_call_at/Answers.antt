@@ -1,0 +1,14 @@
+use Rattle.std.proofs.Common.{◌∷◌, [], Ok}
+use Rattle.fs_model.specs.declared.event.Event.TheVariants.{CallAt}
+use Rattle.fs_model.specs.declared.event.EventReply.TheVariants.{Reply as Replies}
+use Rattle.fs_system.proofs.Played.{system_answers, forgotten_then}
+use Rattle.fs_system.proofs.fs.Fs.serve_call_at.Goals as goal
+
+pub returns : goal.returns
+returns g c =
+    let state = g.D.Disk.state in
+    let kept = c.forget.ensures in
+    let event = CallAt c.args.actor.now c.args.call.now in
+    let reply = c.call_at.result in
+    forgotten_then state c.args.self.now c.forget.new.self kept.state kept.past.same kept.past.failures (Ok c.call_at.new.self) (event ∷ []) (Replies reply ∷ [])
+    (system_answers state c.forget.new.self c.call_at.new.self event reply c.call_at.ensures.does)

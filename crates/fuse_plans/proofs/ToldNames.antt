@@ -1,0 +1,286 @@
+-- For how long each answer tells a name, and that only a look-up tells that there is none.
+--     TellsSo        work whose answer is of some kind, whatever is replied
+--     TellsFor, for-tell_named, ..        a name is told for so many seconds
+--     plain-plan        requests that tell no name
+--     there-plan        requests that name what they make
+--     for-unjudged        look-ups of which who asks counts
+--     SaysSo, all-planned, all-unjudged        the same of whole requests
+use Rattle.std.specs.Prelude.{◌≡◌, ℕ, Bool, true, false, List, Option, None, Some, Result, Ok, Err, if◌then◌else◌, bit_and}
+use Rattle.std.proofs.Common.{refl, sym, subst}
+use Rattle.posix_acl.specs.declared.entry.Perms.{Perms}
+use Rattle.posix_acl.specs.AccessList.{AccessList}
+use Rattle.posix_acl.specs.Entries.{perms_of}
+use Rattle.fs_cred.specs.Credentials.{Credential}
+use Rattle.fs_model.specs.declared.call.AclType.{AclType}
+use Rattle.fs_model.specs.declared.reply.Status.{Status}
+use Rattle.fuse_protocol.specs.declared.operation.Extent.{Extent}
+use Rattle.fuse_protocol.specs.declared.operation.Offer.{Offer}
+use Rattle.fuse_protocol.specs.declared.operation.Operation.{Operation}
+use Rattle.fuse_protocol.specs.declared.operation.Operation.TheVariants.{Lookup, Forget, GetAttr, SetAttr, ReadLink, SymLink, MkNod, MkDir, Unlink, RmDir, Rename, Link, Open, Read, Write, StatFs, Release, FSync, SetXAttr, GetXAttr, ListXAttr, RemoveXAttr, Init, OpenDir, ReadDir, ReadDirPlus, ReleaseDir, FSyncDir, Access, Create, Interrupt, Destroy, BatchForget, SyncFs, Unknown}
+use Rattle.fuse_protocol.specs.declared.reply.Time.{Time}
+use Rattle.fuse_state.specs.Servers.{Server}
+use Rattle.fuse_plans.specs.declared.mode.Mode.{Mode}
+use Rattle.fuse_plans.specs.declared.request.Asked.{Asked}
+use Rattle.fuse_plans.specs.declared.reply.ReplyBody.{ReplyBody}
+use Rattle.fuse_plans.specs.declared.reply.Response.{Response}
+use Rattle.fuse_plans.specs.declared.reply.Response.TheVariants.{Silence, Says, Fails}
+use Rattle.fuse_plans.specs.declared.request_error.RequestError.{RequestError}
+use Rattle.fuse_plans.specs.Plans.{Plan, Finish, Ask}
+use Rattle.fuse_plans.specs.Works.{Work, give, fail, kept, goes_on, ◌>>=◌}
+use Rattle.fuse_plans.specs.Alterations.{says_change}
+use Rattle.fuse_plans.specs.AttributePlans.{tell_attributes}
+use Rattle.fuse_plans.specs.NamePlans.{found_or_absent, find_name, tell_named, tell_made}
+use Rattle.fuse_plans.specs.FilePlans.{tell_created, create_by}
+use Rattle.fuse_plans.specs.ListingPlans.{read_directory_plus}
+use Rattle.fuse_plans.specs.DirectoryPlans.{take_directory, take_directory_if, read_directory, close_directory, sync_all}
+use Rattle.fuse_plans.specs.AclPlans.{sized, set_acl}
+use Rattle.fuse_plans.specs.Requests.{Request, asked_of}
+use Rattle.fuse_plans.specs.Nobody.{is_granted, or_process, or_user, who_counts_in, is_nobody}
+use Rattle.fuse_plans.specs.Serving.{Task, Replying, Silent, begin, count_space, end, plan_of, told_first, asked_for, answered, response_of}
+use Rattle.fuse_plans.specs.Laws.{names_an_object}
+use Rattle.fuse_plans.specs.KeepingLaws.{name_valid_in}
+use Rattle.fuse_plans.proofs.AllEnds.{AllEnd, all-weaker, all-followed_by}
+use Rattle.fuse_plans.proofs.Searches.{is_absent, plan_for, search_then}
+
+-- ---- answers
+
+abbrev pub EndsSo : (ReplyBody → Type 0) → Result ReplyBody RequestError × Server → Type 0
+EndsSo P (Ok body, t) = P body
+EndsSo P (Err e, t) = Unit {0}
+
+-- where it ends well, P holds of what it tells
+pub record TellsSo (P : ReplyBody → Type 0) (w : Work ReplyBody) : Type 0 where
+  pub at : (s : Server) → AllEnd (EndsSo P) (w s)
+
+all-anyhow : {X : Type 0} (p : Plan X) → AllEnd (λ x. Unit {0}) p
+all-anyhow (Finish x) = tt
+all-anyhow (Ask e next) = λ reply. all-anyhow (next reply)
+
+module _ {P : ReplyBody → Type 0} where
+  pub so-after : {X : Type 0} (w : Work X) {f : X → Work ReplyBody} → ((x : X) → TellsSo P (f x)) → TellsSo P (w >>= f)
+  unfolding ◌>>=◌
+  so-after {X} w {f} rest = record { at = λ s. all-followed_by (λ r. Unit {0}) (EndsSo P) (w s) (goes_on f) (all-anyhow (w s)) after }
+    where
+      after : (r : Result X RequestError × Server) → Unit {0} → AllEnd (EndsSo P) (goes_on f r)
+      after (Ok x, t) any = (rest x).at t
+      after (Err e, t) any = tt
+
+  so-give : (body : ReplyBody) → P body → TellsSo P (give body)
+  unfolding give
+  so-give body is = record { at = λ s. is }
+
+  so-kept : (f : Server → ReplyBody) → ((s : Server) → P (f s)) → TellsSo P (kept f)
+  unfolding kept
+  so-kept f is = record { at = λ s. is s }
+
+  so-fail : (e : RequestError) → TellsSo P (fail e)
+  unfolding fail
+  so-fail e = record { at = λ s. tt }
+
+  so-if : (b : Bool) (w v : Work ReplyBody) → TellsSo P w → TellsSo P v → TellsSo P (if b then w else v)
+  so-if true w v first second = first
+  so-if false w v first second = second
+
+-- a name is told for so many seconds
+abbrev pub IsFor : ℕ → ReplyBody → Type 0
+IsFor valid body = (name_valid_in body ≡ valid) × (is_absent body ≡ false)
+
+abbrev pub TellsFor : ℕ → Work ReplyBody → Type 0
+TellsFor valid w = TellsSo (IsFor valid) w
+
+-- ---- new names
+
+for-tell_named : (valid n : ℕ) → TellsFor valid (tell_named valid n)
+for-tell_named valid n = so-after _ (λ status. so-after _ (λ stamps. so-kept _ (λ s. (refl, refl))))
+
+pub for-tell_made : (now : Time) (valid d n : ℕ) → TellsFor valid (tell_made now valid d n)
+unfolding tell_made
+for-tell_made now valid d n = so-after _ (λ counted. for-tell_named valid n)
+
+pub for-create_by : (now : Time) (valid : ℕ) (cred : Credential) (umask d : ℕ) (name : List ℕ) (mode : Mode) (flags file_mode : ℕ)
+    → TellsFor valid (create_by now valid cred umask d name mode flags file_mode)
+unfolding tell_created
+for-create_by now valid cred umask d name mode flags file_mode =
+    so-after _ (λ opened. so-after _ (λ handle. so-after _ (λ told. so-after _ (λ seen. so-kept _ (λ s. (refl, refl))))))
+
+-- ---- look-ups
+
+unjudged : (seen : Result Status RequestError) → TellsFor 0 (found_or_absent false seen)
+unjudged (Ok status) = so-after _ (λ stamps. so-kept _ (λ s. (refl, refl)))
+unjudged (Err e) = so-after _ (λ settings. so-fail e)
+
+for-unjudged : (r : Request) (name : List ℕ) → TellsFor 0 (find_name (asked_of r false) name)
+for-unjudged r name = so-after _ (λ d. so-after _ (λ cred. so-after _ unjudged))
+
+-- ---- requests that tell no name
+
+-- work that tells so
+abbrev pub IfTellsSo : (ReplyBody → Type 0) → Task → Type 0
+IfTellsSo P Silent = Unit {0}
+IfTellsSo P (Replying w) = TellsSo P w
+
+for-sized : (size has : ℕ) (body : ReplyBody) → IsFor 0 body → TellsFor 0 (sized size has body)
+for-sized size has body is = so-if _ _ _ (so-give _ (refl, refl)) (so-if _ _ _ (so-fail _) (so-give body is))
+
+for-take_directory_if : (uid node : ℕ) (may : Bool) → TellsFor 0 (take_directory_if uid node may)
+for-take_directory_if uid node false = so-fail _
+for-take_directory_if uid node true = so-after _ (λ handle. so-after _ (λ opened. so-kept _ (λ s. (refl, refl))))
+
+for-take_directory : (uid node : ℕ) → TellsFor 0 (take_directory uid node)
+unfolding take_directory
+for-take_directory uid node = so-after _ (for-take_directory_if uid node)
+
+for-read_directory : (node : ℕ) (extent : Extent) → TellsFor 0 (read_directory node extent)
+unfolding read_directory
+for-read_directory node extent = so-after _ (λ names. so-give _ (refl, refl))
+
+for-read_directory_plus : (nobody : Bool) (node : ℕ) (extent : Extent) → TellsFor 0 (read_directory_plus nobody node extent)
+unfolding read_directory_plus
+for-read_directory_plus nobody node extent = so-after _ (λ place. so-after _ (λ names. so-after _ (λ found. so-give _ (refl, refl))))
+
+for-close_directory : (handle : ℕ) → TellsFor 0 (close_directory handle)
+unfolding close_directory
+for-close_directory handle = so-after _ (λ gone. so-give _ (refl, refl))
+
+for-sync_all : TellsFor 0 sync_all
+unfolding sync_all
+for-sync_all = so-after _ (λ done. so-give _ (refl, refl))
+
+for-end : TellsFor 0 end
+unfolding end
+for-end = so-after _ (λ ended. for-sync_all)
+
+for-count_space : TellsFor 0 count_space
+unfolding count_space
+for-count_space = so-after _ (λ reply. so-after _ (λ free. so-kept _ (λ s. (refl, refl))))
+
+for-begin : (offer : Offer) → TellsFor 0 (begin offer)
+unfolding begin
+for-begin offer = so-if _ _ _ (so-fail _) (so-if _ _ _ (so-give _ (refl, refl)) (so-after _ (λ offered. so-kept _ (λ s. (refl, refl)))))
+
+for-set_acl : (r : Asked) (which : AclType) (acl : Option AccessList) → TellsFor 0 (set_acl r which acl)
+for-set_acl r which acl =
+    so-after _ (λ n. so-after _ (λ cred. so-after _ (λ list. so-after _ (λ set. so-after _ (λ may. so-after _ (λ changed. so-give _ (refl, refl)))))))
+
+for-tell_attributes : (status : Status) → TellsFor 0 (tell_attributes status)
+for-tell_attributes status = so-after _ (λ stamps. so-kept _ (λ s. (refl, refl)))
+
+pub plain-plan : (r : Asked) (value : Option (Option AccessList)) (operation : Operation) → names_an_object operation ≡ false
+    → IfTellsSo (IsFor 0) (plan_of r value operation)
+plain-plan r value (Lookup name) is = absurd (cc)
+plain-plan r value (Forget count) is = tt
+plain-plan r value GetAttr is = so-after _ (λ n. so-after _ (λ status. for-tell_attributes status))
+plain-plan r value (SetAttr changes) is =
+    so-after _ (λ n. so-after _ (λ cred. so-after _ (λ changed. so-after _ (λ status. so-after _ (λ timed. for-tell_attributes status)))))
+plain-plan r value ReadLink is = so-after _ (λ n. so-after _ (λ reply. so-after _ (λ target. so-give _ (refl, refl))))
+plain-plan r value (SymLink name target) is = absurd (cc)
+plain-plan r value (MkNod name mode umask) is = absurd (cc)
+plain-plan r value (MkDir name mode umask) is = absurd (cc)
+plain-plan r value (Unlink name) is =
+    so-after _ (λ d. so-after _ (λ cred. so-after _ (λ gone. so-after _ (λ done. so-after _ (λ removed. so-give _ (refl, refl))))))
+plain-plan r value (RmDir name) is =
+    so-after _ (λ d. so-after _ (λ cred. so-after _ (λ gone. so-after _ (λ done. so-after _ (λ removed. so-give _ (refl, refl))))))
+plain-plan r value (Rename name new_directory new_name flags) is =
+    so-after _ (λ may. so-after _ (λ d. so-after _ (λ new. so-after _ (λ cred. so-after _ (λ free.
+    so-after _ (λ object. so-after _ (λ replaced. so-after _ (λ done. so-after _ (λ moved. so-give _ (refl, refl))))))))))
+plain-plan r value (Link node name) is =
+    so-after _ (λ d. so-after _ (λ n. so-after _ (λ cred. so-after _ (λ done. so-after _ (λ linked. for-tell_named 0 n)))))
+plain-plan r value (Open flags) is =
+    so-after _ (λ n. so-after _ (λ mode. so-after _ (λ cred. so-after _ (λ asked. so-after _ (λ reply. so-after _ (λ opened. so-after _ (λ touched. so-kept _ (λ s. (refl, refl)))))))))
+plain-plan r value (Read extent) is = so-after _ (λ reply. so-after _ (λ bytes. so-give _ (refl, refl)))
+plain-plan r value (Write handle offset bytes) is = so-after _ (λ within. so-after _ (λ count. so-after _ (λ touched. so-give _ (refl, refl))))
+plain-plan r value StatFs is = for-count_space
+plain-plan r value (Release handle) is = so-after _ (λ closed. so-give _ (refl, refl))
+plain-plan r value (FSync handle) is = for-sync_all
+plain-plan r value (SetXAttr name bytes) is = so-after _ (λ which. so-after _ (λ acl. for-set_acl r which acl))
+plain-plan r value (GetXAttr name size) is = so-after _ (λ which. so-after _ (λ n. so-after _ (λ found. so-after _ (λ acl. for-sized size _ _ (refl, refl)))))
+plain-plan r value (ListXAttr size) is = so-after _ (λ n. so-after _ (λ names. for-sized size _ _ (refl, refl)))
+plain-plan r value (RemoveXAttr name) is = so-after _ (λ which. for-set_acl r which None)
+plain-plan r value (Init offer) is = for-begin offer
+plain-plan r value OpenDir is = so-after _ (λ n. so-after _ (λ cred. so-after _ (λ read. so-after _ (λ may. for-take_directory cred.uid r.node))))
+plain-plan r value (ReadDir extent) is = for-read_directory r.node extent
+plain-plan r value (ReadDirPlus extent) is = for-read_directory_plus r.needs_nobody r.node extent
+plain-plan r value (ReleaseDir handle) is = for-close_directory handle
+plain-plan r value FSyncDir is = for-sync_all
+plain-plan r value (Access mask) is = so-after _ (λ n. so-after _ (λ cred. so-after _ (λ may. so-give _ (refl, refl))))
+plain-plan r value (Create name flags mode umask) is = absurd (cc)
+plain-plan r value Interrupt is = tt
+plain-plan r value Destroy is = for-end
+plain-plan r value (BatchForget batch) is = tt
+plain-plan r value SyncFs is = for-sync_all
+plain-plan r value Unknown is = so-fail _
+
+-- ---- requests that name what they make
+
+abbrev pub IsThere : ReplyBody → Type 0
+IsThere body = is_absent body ≡ false
+
+so-there : {valid : ℕ} {w : Work ReplyBody} → TellsFor valid w → TellsSo IsThere w
+so-there {valid} {w} so = record { at = λ s. all-weaker (EndsSo (IsFor valid)) (EndsSo IsThere) (w s) (so.at s) ends }
+  where
+    ends : (r : Result ReplyBody RequestError × Server) → EndsSo (IsFor valid) r → EndsSo IsThere r
+    ends (Ok body, t) is = is.1
+    ends (Err e, t) any = tt
+
+pub there-plan : (r : Asked) (value : Option (Option AccessList)) (operation : Operation) → names_an_object operation ≡ true
+    → ((name : List ℕ) → operation ≡ Lookup name → ⊥) → IfTellsSo IsThere (plan_of r value operation)
+there-plan r value (Lookup name) is other = absurd (other name refl)
+there-plan r value (SymLink name target) is other =
+    so-after _ (λ d. so-after _ (λ valid. so-after _ (λ cred. so-after _ (λ reply. so-after _ (λ n. so-there (for-tell_made r.now valid d n))))))
+there-plan r value (MkNod name mode umask) is other =
+    so-after _ (λ file. so-after _ (λ d. so-after _ (λ valid. so-after _ (λ cred. so-after _ (λ reply. so-after _ (λ opened. so-after _ (λ closed.
+    so-there (for-tell_made r.now valid d opened.1))))))))
+there-plan r value (MkDir name mode umask) is other =
+    so-after _ (λ d. so-after _ (λ valid. so-after _ (λ cred. so-after _ (λ reply. so-after _ (λ n. so-there (for-tell_made r.now valid d n))))))
+there-plan r value (Create name flags mode umask) is other =
+    so-after _ (λ plain. so-after _ (λ way. so-after _ (λ d. so-after _ (λ valid. so-after _ (λ cred.
+    so-there (for-create_by r.now valid cred (bit_and umask 0o777) d name way flags.0 mode))))))
+there-plan r value _ is other = absurd (cc)
+
+-- ---- whole requests
+
+abbrev pub SaysSo : (ReplyBody → Type 0) → Response × Server → Type 0
+SaysSo P (Silence, t) = Unit {0}
+SaysSo P (Says body, t) = P body
+SaysSo P (Fails e, t) = Unit {0}
+
+-- also where the machine is told the time first
+so-told_first : (P : ReplyBody → Type 0) (says : Bool) (now : Time) (task : Task) → IfTellsSo P task → IfTellsSo P (told_first says now task)
+so-told_first P false now task so = so
+so-told_first P true now (Replying w) so = so-after _ (λ told. so)
+so-told_first P true now Silent so = so
+
+all-answered : (P : ReplyBody → Type 0) (memory : Bool) (task : Task) (s : Server) → IfTellsSo P task → AllEnd (SaysSo P) (answered memory task s)
+all-answered P true Silent s so = tt
+all-answered P false Silent s so = tt
+all-answered P false (Replying w) s so = tt
+all-answered P true (Replying w) s so = all-followed_by (EndsSo P) (SaysSo P) (w s) (λ r. Finish (response_of r.0, r.1)) (so.at s) says
+  where
+    says : (r : Result ReplyBody RequestError × Server) → EndsSo P r → SaysSo P (response_of r.0, r.1)
+    says (Ok body, t) is = is
+    says (Err e, t) any = tt
+
+pub all-planned : (P : ReplyBody → Type 0) (r : Request) (operation : Operation) (s : Server)
+    → ((nobody : Bool) → IfTellsSo P (plan_of (asked_of r nobody) r.value operation)) → AllEnd (SaysSo P) (plan_for r (Some operation) s)
+all-planned P r operation s so =
+    all-followed_by (λ who. Unit {0}) (SaysSo P) (who_counts_in r.node r.uid (Some operation) s)
+    (λ who. answered r.memory (asked_for (asked_of r (is_nobody who)) r.value (Some operation)) s) (all-anyhow (who_counts_in r.node r.uid (Some operation) s))
+    (λ who any. all-answered P r.memory _ s (so-told_first P (says_change operation) r.now _ (so (is_nobody who))))
+
+-- where who asks counts
+all-somebody : (want : Perms) (node uid : ℕ) (s : Server) → AllEnd (λ who. is_nobody who ≡ false) (or_user false (Some want) node uid s)
+all-somebody want node uid s =
+    all-followed_by (λ q. Unit {0}) (λ who. is_nobody who ≡ false) (is_granted node uid want s) (λ q. Finish (or_process q.0)) (all-anyhow (is_granted node uid want s))
+    (λ q any. somebody q.0)
+  where
+    somebody : (r : Result Bool RequestError) → is_nobody (or_process r) ≡ false
+    somebody (Ok true) = refl
+    somebody (Ok false) = refl
+    somebody (Err e) = refl
+
+pub all-unjudged : (r : Request) (name : List ℕ) (s : Server) → AllEnd (SaysSo (IsFor 0)) (search_then r name s false)
+all-unjudged r name s =
+    all-followed_by (λ who. is_nobody who ≡ false) (SaysSo (IsFor 0)) (or_user false (Some (perms_of 1)) r.node r.uid s)
+    (λ who. answered r.memory (Replying (find_name (asked_of r (is_nobody who)) name)) s) (all-somebody (perms_of 1) r.node r.uid s)
+    (λ who counts. all-answered (IsFor 0) r.memory (Replying (find_name (asked_of r (is_nobody who)) name)) s
+    (subst (λ b. TellsFor 0 (find_name (asked_of r b) name)) (sym counts) (for-unjudged r name)))

@@ -1,5 +1,0 @@
-use Rattle.fuse_steps.proofs.Steps.{machine-asks}
-use Rattle.fuse_steps.proofs.asker.ask_call.Goals as goal
-
-pub returns : goal.returns
-returns g c = machine-asks _ c.call.ensures
