@@ -2,6 +2,7 @@
 with what is wanted."""
 import collections
 import concurrent.futures
+import itertools
 import os
 import random
 import resource
@@ -16,6 +17,7 @@ ANN_IN_17 = (1000, (100, *range(3000, 3016)))
 ANN_IN_40 = (1000, (100, *range(3000, 3039)))
 ANN_TWICE = [(1000, (100, 300)), (1000, (100, 301))]
 LOOK_UPS = 200
+OPENED, SPARE = 100_000, 100  # files that one user has open, and what each of its processes needs besides
 OVERLAYS = 10
 CREATIONS = 10_000
 MOST_NAMES = 400
@@ -95,8 +97,13 @@ def open_many(path, flags, most):
     return most, None
 
 
+def most_open():
+    """How many files a process may have open here, so that it can open what it needs besides."""
+    return resource.getrlimit(resource.RLIMIT_NOFILE)[1] - SPARE
+
+
 def holder(user):
-    resource.setrlimit(resource.RLIMIT_NOFILE, (4096, max(4096, resource.getrlimit(resource.RLIMIT_NOFILE)[1])))
+    resource.setrlimit(resource.RLIMIT_NOFILE, (most_open() + SPARE,) * 2)
     return Worker(user, open_many)
 
 
@@ -114,11 +121,11 @@ def open_directories(mounted, told):
 
 def open_files(mounted, told):
     path = work_file(mounted.mount, 'often', 'x')
-    holders = [holder(user) for user in ANN_TWICE]
+    count = max(2, -(-OPENED // most_open()))
+    holders = [holder(user) for user in itertools.islice(itertools.cycle(ANN_TWICE), count)]
     try:
-        first, second = [one.ask(path, os.O_RDONLY, 1600) for one in holders]
-        seen = first[0] + second[0], first[1], second[1]
-        told.compare('open files', 'of one user with two credentials', None, seen, (1024, 'ENFILE', 'ENFILE'))
+        seen = [one.ask(path, os.O_RDONLY, OPENED // count) for one in holders]
+        told.compare('open files', 'of one user with two credentials', None, seen, [(OPENED // count, None)] * count)
         for user in ('root', 'bob'):
             told.compare('open files', f'{user} opens one beside them', None, as_user(user, path.read_text), 'x')
     finally:
