@@ -27,6 +27,7 @@ LOOK, SERVED, CHANGED = {LOCAL: 2}, {OTHER: 1, BARE: 1.5}, {OTHER: 1}
 ROWS = {
     'stat': LOOK, 'absent name': LOOK, 'open and close': SERVED, 'create': CHANGED, 'rename': CHANGED, 'unlink': CHANGED,
     f'readdir of {FEW} names': SERVED, f'`ls -l` of {MANY} names, not the first time': {LOCAL: 2.2},
+    f'`ls -l` of {FEW} names and a new one': {BARE: 2},
     'read of 4 KiB': SERVED, 'read of 128 KiB': SERVED, 'open, read of 128 KiB, close': SERVED,
     'write of 4 KiB': CHANGED, 'write of 128 KiB': {}, 'write of 4 KiB and fsync': {},
     '`git clone`, milliseconds': CHANGED, '`git status` there, milliseconds': CHANGED,
@@ -90,11 +91,25 @@ def names(root):
     yield each(WORKED_ON, lambda number: os.unlink(folder / f'm{number}'))
 
 
+def list_long(folder):
+    subprocess.run(['ls', '-l', folder], stdout=subprocess.DEVNULL, check=True)
+
+
+def list_with_a_new_one(folder, number):
+    """The kernel keeps no listing of a directory in which a name was made."""
+    new = folder / f'm{number}'
+    make(new)
+    try:
+        return taken(lambda: list_long(folder))
+    finally:
+        os.unlink(new)
+
+
 def listings(root):
     yield each(10, lambda _: os.listdir(root / 'few'))
-    list_all = lambda: subprocess.run(['ls', '-l', root / 'many'], stdout=subprocess.DEVNULL, check=True)
-    list_all()
-    yield taken(list_all)
+    list_long(root / 'many')
+    yield taken(lambda: list_long(root / 'many'))
+    yield statistics.mean(list_with_a_new_one(root / 'few', number) for number in range(5))
 
 
 def moves(root):
