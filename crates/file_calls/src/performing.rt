@@ -60,7 +60,7 @@ pub fn perform_for_process<S: Sectors>(
         }
         Call::Write(fd, bytes) => {
             let place = OpenAt::Descriptor { pid, fd: *fd };
-            Some(write(s, site, procs, openings, place, bytes))
+            Some(write(s, site, procs, openings, place, bytes.bytes()))
         }
         Call::Lseek(fd, whence, by) => {
             Some(lseek(s, site, procs, openings, pid, *fd, *whence, *by))
@@ -113,7 +113,7 @@ pub fn perform_by_handle<S: Sectors>(
                 handle,
                 offset: *offset,
             };
-            write(s, site, procs, openings, place, bytes)
+            write(s, site, procs, openings, place, bytes.bytes())
         }
         HandleCall::Resize(size) => ftruncate(s, site, procs, openings, place, *size),
         HandleCall::Show => fstat(s, site, procs, openings, place),

@@ -234,14 +234,13 @@ pub fn write<S: Sectors>(
     procs: &mut Procs,
     openings: &Openings,
     place: OpenAt,
-    bytes: &Bytes,
+    bytes: &[u8],
 ) -> CallResult
     requires ready { MayPerform site.geometry (S.state s.old) (both procs.old openings.now.0) }
     ensures { Performs site.geometry site.time (write_through place bytes.now)
         (S.state s.old) (S.state s.new) (both procs.old openings.now.0) (both procs.new openings.now.0) result }
 {
     let descriptor = find_open(procs, openings, place, OpenFor::Writing)?;
-    let bytes = bytes.bytes();
     if bytes.is_empty() {
         return Ok(Reply::Wrote(0));
     }

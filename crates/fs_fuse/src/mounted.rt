@@ -56,4 +56,8 @@ impl<D: Disk + Drop> Machine for Mounted<D> {
     fn call_by(&mut self, handle: u64, call: &HandleCall) -> Reply {
         self.fs.serve_call_by(handle, call)
     }
+
+    fn write_by(&mut self, handle: u64, offset: u64, bytes: &[u8]) -> Reply {
+        self.fs.serve_write_by(handle, offset, bytes)
+    }
 }

@@ -14,3 +14,4 @@ pub mod Stamping
 pub mod Played
 pub mod Confinement
 pub mod Counting
+pub mod Asked

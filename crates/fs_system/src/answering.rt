@@ -3,6 +3,7 @@
 ghost use Rattle.std.specs.Prelude.{◌≡◌, ◌∷◌, [], Ok, IsTrue};
 ghost use Rattle.fs_model.specs.Steps.{is_of_machine};
 ghost use Rattle.fs_model.specs.declared.event.Event.TheVariants.{Call as Calls, CallAt, CallBy};
+ghost use Rattle.fs_model.specs.declared.event.HandleCall.TheVariants.{Write as WriteAt};
 ghost use Rattle.fs_model.specs.declared.event.EventReply.TheVariants.{Reply as Replies};
 ghost use Rattle.fs_system.specs.Doing.{Happens};
 ghost use Rattle.fs_system.specs.Playing.{Plays};
@@ -114,5 +115,13 @@ impl<D: Disk + Drop> Fs<D> {
     {
         self.forget();
         self.call_by(handle, call)
+    }
+
+    /// Lets the disk forget its past, and then writes bytes that are lent by a handle.
+    pub fn serve_write_by(&mut self, handle: u64, offset: u64, bytes: &[u8]) -> Reply
+        ensures { Plays D.state (Ok self.old) (CallBy handle (WriteAt offset bytes.now) ∷ []) (Replies result ∷ []) (Ok self.new) }
+    {
+        self.forget();
+        self.write_by(handle, offset, bytes)
     }
 }

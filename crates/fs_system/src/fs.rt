@@ -8,6 +8,8 @@ ghost use Rattle.sector_txn.specs.Stores.{present};
 ghost use Rattle.fs_model.specs.States.{State};
 ghost use Rattle.fs_model.specs.declared.event.Event.{Event};
 ghost use Rattle.fs_model.specs.declared.event.Event.TheVariants.{Spawn, Exit, Call as Calls, CallAt, CallBy, Stamp, Clock, Fsync, Sync, Statfs};
+ghost use Rattle.fs_model.specs.declared.event.HandleCall.TheVariants.{Write as WriteAt};
+ghost use Rattle.fs_system.specs.Asked.{handle_call};
 ghost use Rattle.fs_system.specs.Playing.{HasDisk};
 ghost use Rattle.fs_system.specs.Mounts.{Mounts, FailsToMount, IsNotMounted};
 ghost use Rattle.fs_system.specs.Mounting.{StandsAsBefore, disk_mounted, disk_of_store, is_halted, LeavesHalted};
@@ -19,6 +21,7 @@ ghost use Rattle.fs_system.specs.Replies.{spawned, finished, unmounted, counted,
 ghost use Rattle.fs_model.specs.declared.event.RestartFault.TheVariants.{DiskFault as Device};
 
 use crate::base::Base;
+use crate::calls::AskedByHandle;
 use crate::counted::CountedStore;
 use crate::faults::MountFault;
 use crate::stored::{
@@ -360,12 +363,9 @@ impl<D: Disk + Drop> Fs<D> {
         reply
     }
 
-    /// What is done by a handle, whoever has got it. EBADF: there is no such handle, or it isn't for that.
-    ///
-    /// A handle is a secret of who opens: no permission is asked again. After a read that fails nothing has changed, and the call may be
-    /// made again.
-    pub fn call_by(&mut self, handle: u64, call: &HandleCall) -> Reply
-        ensures does { Happens D.state self.old self.new (CallBy handle call.now) result }
+    // What is done by a handle.
+    fn perform_by(&mut self, handle: u64, asked: AskedByHandle<'_>) -> Reply
+        ensures does { Happens D.state self.old self.new (CallBy handle (handle_call asked.entry)) result }
         ensures halted { LeavesHalted self.old self.new }
     {
         if self.is_halted() {
@@ -383,10 +383,29 @@ impl<D: Disk + Drop> Fs<D> {
             &mut self.procs,
             &mut self.openings,
             handle,
-            call,
+            asked,
         );
         self.base.put(base);
         reply
+    }
+
+    /// What is done by a handle, whoever has got it. EBADF: there is no such handle, or it isn't for that.
+    ///
+    /// A handle is a secret of who opens: no permission is asked again. After a read that fails nothing has changed, and the call may be
+    /// made again.
+    pub fn call_by(&mut self, handle: u64, call: &HandleCall) -> Reply
+        ensures does { Happens D.state self.old self.new (CallBy handle call.now) result }
+        ensures halted { LeavesHalted self.old self.new }
+    {
+        self.perform_by(handle, AskedByHandle::Call(call))
+    }
+
+    /// The same of a write whose bytes are lent, and needn't be copied.
+    pub fn write_by(&mut self, handle: u64, offset: u64, bytes: &[u8]) -> Reply
+        ensures does { Happens D.state self.old self.new (CallBy handle (WriteAt offset bytes.now)) result }
+        ensures halted { LeavesHalted self.old self.new }
+    {
+        self.perform_by(handle, AskedByHandle::Write { offset, bytes })
     }
 
     // Makes all stable that was done before. EIO where that fails, or the file system is halted.

@@ -6,6 +6,7 @@ ghost use Rattle.call_parts.specs.Callers.{event, who_of};
 ghost use Rattle.sector_txn.specs.Stores.{present, disk_after};
 ghost use Rattle.fs_model.specs.States.{State};
 ghost use Rattle.fs_model.specs.declared.event.Event.TheVariants.{CallBy, Exit, Stamp, Statfs};
+ghost use Rattle.fs_system.specs.Asked.{handle_call};
 ghost use Rattle.fs_system.specs.Running.{IsRunning};
 ghost use Rattle.fs_system.specs.Seen.{IsOn, base_left};
 ghost use Rattle.fs_system.specs.Doing.{Does};
@@ -13,14 +14,16 @@ ghost use Rattle.fs_system.specs.Replies.{finished, counted, stamped_reply};
 ghost use Rattle.fs_model.specs.declared.reply.Reply.TheVariants.{Refused};
 ghost use Rattle.fs_cred.specs.declared.refusal.Refusal.TheVariants.{Failed};
 
-use crate::calls::{credential_is_in_range, perform};
+use crate::calls::{
+    AskedByHandle, asked_is_in_range, credential_is_in_range, perform, perform_by_handle,
+};
 use crate::counted::{CountedStore, count_both, drop_delta, keep};
 use crate::stamping::{stamp, times_are_in_range};
 use call_parts::{By, Site};
-use file_calls::{exit, perform_by_handle};
+use file_calls::exit;
 use fs_cred::{Errno, Refusal};
 use fs_layout::Geometry;
-use fs_model::{Call, HandleCall, Reply, Stamps, call_is_in_range, handle_call_is_in_range};
+use fs_model::{Call, Reply, Stamps, call_is_in_range};
 use open_files::{Openings, Procs};
 use redo_journal::Broken;
 use sector_disk::{Disk, DiskFault};
@@ -67,18 +70,18 @@ pub(crate) fn perform_by_handle_kept<D: Disk>(
     procs: &mut Procs,
     openings: &mut Openings,
     handle: u64,
-    call: &HandleCall,
+    asked: AskedByHandle<'_>,
 ) -> (Reply, Result<CountedStore<D>, Broken<D>>)
     requires running { (s : State)
         × IsRunning (D.state store.disk).size site.geometry (present D.state store) (both procs.old openings.old.0) s }
     ensures does { (s : State) → IsRunning (D.state store.disk).size site.geometry (present D.state store) (both procs.old openings.old.0) s
         → s.now ≡ site.time
         → (t : State) × IsOn D.state site.geometry s.now (both procs.new openings.new.0) (base_left result.1) t
-        × Does (D.state store.disk) (D.state (disk_after result.1)) s (CallBy handle call.now) result.0 t }
+        × Does (D.state store.disk) (D.state (disk_after result.1)) s (CallBy handle (handle_call asked.entry)) result.0 t }
 {
-    handle_call_is_in_range(call);
+    asked_is_in_range(asked);
     let (mut txn, known) = store.begin();
-    match perform_by_handle(&mut txn, site, procs, openings, handle, call) {
+    match perform_by_handle(&mut txn, site, procs, openings, handle, asked) {
         Ok(reply) => match keep(txn, known) {
             Ok(store) => (reply, Ok(store)),
             Err(broken) => (failed(Errno::EIO), Err(broken)),

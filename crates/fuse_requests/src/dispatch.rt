@@ -30,7 +30,6 @@ use fuse_steps::Machine;
 use fuse_steps::acls::AclNames;
 use fuse_steps::flags::is_trunc;
 use fuse_steps::name_room::NameRoom;
-use fuse_steps::runs::room_for_pieces;
 use posix_acl::Acl;
 use std::alloc::AllocError;
 
@@ -287,17 +286,14 @@ fn perform_write<M: Machine>(
     handle: u64,
     offset: u64,
     bytes: &Piece<'_>,
-) -> Result<Response, AllocError>
+) -> Response
     requires { 5 ≤ session.old.server.room }
-    ensures answered { let plan = Replying (write_file asked.entry.now.now handle offset bytes.now) in
-        IfOk result (Answered M.Serves (told_first true asked.entry.now.now plan) session.old session.new) }
-    ensures stays { OnErr result (session.new ≡ session.old) }
+    ensures { let plan = Replying (write_file asked.entry.now.now handle offset bytes.now) in
+        Answered M.Serves (told_first true asked.entry.now.now plan) session.old session.new result }
 {
-    let bytes = bytes.bytes();
-    let room = room_for_pieces(session.alloc, bytes)?;
     session.tell_time(asked.now);
-    let wrote = write_file(session, asked.now, handle, offset, bytes, room);
-    Ok(response_of(wrote))
+    let wrote = write_file(session, asked.now, handle, offset, bytes.bytes());
+    response_of(wrote)
 }
 
 // The names of a directory are looked up, as many as have room for their records.
@@ -337,7 +333,7 @@ fn perform_by_handle<M: Machine>(
             handle,
             offset,
             bytes,
-        } => perform_write(session, asked, *handle, *offset, bytes),
+        } => Ok(perform_write(session, asked, *handle, *offset, bytes)),
         Operation::Release(handle) => Ok(response_of(close_file(session, *handle))),
         Operation::FSync(_) => Ok(response_of(sync_all(session))),
         Operation::ReadDir(extent) => {

@@ -1,7 +1,6 @@
 //! Requests for files: to open and create them, and what is done by a handle.
-ghost use Rattle.std.specs.Prelude.{◌≡◌, ◌&&◌, not, ◌≤◌, ℕ, List, [], Some, Err, length, min};
+ghost use Rattle.std.specs.Prelude.{◌≡◌, ◌&&◌, not, ◌≤◌, ℕ, List, [], Some, Err};
 ghost use Rattle.fs_cred.specs.declared.errno.Errno.TheVariants.{EEXIST};
-ghost use Rattle.fs_model.specs.Limits.{move_limit, handle_write_limit};
 ghost use Rattle.fs_model.specs.declared.call.Call.TheVariants.{Open};
 ghost use Rattle.fs_model.specs.declared.call.Flags.{Flags as FlagsOf};
 ghost use Rattle.fuse_plans.specs.Callers.{actor_in, on};
@@ -26,7 +25,7 @@ use fuse_steps::asker::{
 use fuse_steps::flags::{creating, is_excl, is_exec, is_trunc, opening, reads_alone};
 use fuse_steps::name::{attributes, plain_name};
 use fuse_steps::replies::{data_of_reply, within};
-use fuse_steps::runs::{WriteRoom, within_offsets, write_runs};
+use fuse_steps::runs::{within_offsets, write_runs};
 use fuse_steps::seen::{replied_opened, shown};
 use posix_acl::Perms;
 
@@ -371,22 +370,19 @@ fn touch_open<M: Machine>(session: &mut Session<M>, now: Time, handle: u64) -> T
     Ok(())
 }
 
-/// Writes into what is open, with room for what is written.
+/// Writes into what is open.
 pub(crate) fn write_file<M: Machine>(
     session: &mut Session<M>,
     now: Time,
     handle: u64,
     offset: u64,
     bytes: &[u8],
-    room: WriteRoom,
 ) -> Replied
-    requires room { 1 ≤ session.old.server.room }
-    requires run { min (length bytes.now) handle_write_limit ≤ length room.run }
-    requires piece { min (length bytes.now) move_limit ≤ length room.piece }
+    requires { 1 ≤ session.old.server.room }
     ensures { Did M.Serves (write_file now handle offset bytes.now) session.old session.new result }
 {
     within_offsets(offset, bytes)?;
-    let count = write_runs(&mut session.machine, handle, offset, bytes, room)?;
+    let count = write_runs(&mut session.machine, handle, offset, bytes)?;
     let _touched = touch_open(session, now, handle);
     Ok(ReplyBody::Wrote(count))
 }

@@ -5,7 +5,7 @@
 ghost use Rattle.std.specs.Prelude.{◌≡◌, Err, Ok, IsTrue, MatchResult};
 ghost use Rattle.fs_model.specs.Steps.{is_of_machine};
 ghost use Rattle.fs_model.specs.declared.event.Event.TheVariants.{CallAt, CallBy};
-ghost use Rattle.fs_model.specs.declared.event.HandleCall.TheVariants.{Close};
+ghost use Rattle.fs_model.specs.declared.event.HandleCall.TheVariants.{Close, Write};
 ghost use Rattle.fs_model.specs.declared.reply.Reply.{Reply as ReplyOf};
 ghost use Rattle.fuse_plans.specs.Works.{give, ask, obtain, of_result, or_closed, refusal_in, unless_refused};
 ghost use Rattle.fuse_plans.specs.Callers.{actor_at, actor_in, inside, object_error, on, who_asks};
@@ -87,6 +87,13 @@ fn ask_by<M: Machine>(machine: &mut M, handle: u64, call: &HandleCall) -> Reply
     machine.call_by(handle, call)
 }
 
+// The reply to a write by a handle.
+fn ask_write<M: Machine>(machine: &mut M, handle: u64, offset: u64, bytes: &[u8]) -> Reply
+    ensures { DidByMachine M.Serves (ask (CallBy handle (Write offset bytes.now))) machine.old machine.new (Ok result) }
+{
+    machine.write_by(handle, offset, bytes)
+}
+
 /// The reply to an event, unless that is a refusal.
 pub fn obtain<M: Machine>(machine: &mut M, event: Event) -> Tried<Reply>
     requires { IsTrue (is_of_machine event) }
@@ -110,6 +117,19 @@ pub fn obtain_by<M: Machine>(machine: &mut M, handle: u64, call: &HandleCall) ->
     ensures { DidByMachine M.Serves (obtain (CallBy handle call.now)) machine.old machine.new result }
 {
     let reply = ask_by(machine, handle, call);
+    unless_refused(reply)
+}
+
+/// The reply to a write by a handle, unless that is a refusal. Its bytes are lent.
+pub fn obtain_write<M: Machine>(
+    machine: &mut M,
+    handle: u64,
+    offset: u64,
+    bytes: &[u8],
+) -> Tried<Reply>
+    ensures { DidByMachine M.Serves (obtain (CallBy handle (Write offset bytes.now))) machine.old machine.new result }
+{
+    let reply = ask_write(machine, handle, offset, bytes);
     unless_refused(reply)
 }
 

@@ -2,6 +2,7 @@
 ghost use Rattle.std.specs.Prelude.{IsTrue};
 ghost use Rattle.fs_model.specs.Steps.{is_of_machine};
 ghost use Rattle.fs_model.specs.declared.event.Event.TheVariants.{CallAt, CallBy};
+ghost use Rattle.fs_model.specs.declared.event.HandleCall.TheVariants.{Write};
 
 use fs_model::{Actor, Call, Event, HandleCall, Reply};
 
@@ -25,4 +26,8 @@ pub trait Machine {
     /// The reply to a call by the handle with this number.
     fn call_by(&mut self, handle: u64, call: &HandleCall) -> Reply
         ensures { Serves self.old (CallBy handle call.now) result self.new };
+
+    /// The reply to a write by the handle with this number. Its bytes are lent.
+    fn write_by(&mut self, handle: u64, offset: u64, bytes: &[u8]) -> Reply
+        ensures { Serves self.old (CallBy handle (Write offset bytes.now)) result self.new };
 }

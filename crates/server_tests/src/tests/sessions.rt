@@ -51,6 +51,10 @@ impl<P: Player> Machine for Played<P> {
     fn call_by(&mut self, handle: u64, call: &HandleCall) -> Reply {
         self.player.reply_by(handle, call)
     }
+
+    fn write_by(&mut self, _handle: u64, _offset: u64, _bytes: &[u8]) -> Reply {
+        Reply::Done
+    }
 }
 
 // What is agreed on before a server serves: whether the disk keeps times, and after how many seconds all is made to last.

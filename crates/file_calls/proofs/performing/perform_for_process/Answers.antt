@@ -11,7 +11,7 @@ pub returns-in-Read : goal.returns-in-Read
 returns-in-Read g c = performed _ _ _ _ _ _ _ _ _ _ c.in-Read.is c.read.ensures.performs
 
 pub returns-in-Write : goal.returns-in-Write
-returns-in-Write g c = performed _ _ _ _ _ _ _ _ _ _ c.in-Write.is c.write.ensures
+returns-in-Write g c = performed _ _ _ _ _ _ _ _ _ _ c.in-Write.is (rw c.bytes.ensures.all at c.write.ensures)
 
 pub returns-in-Close : goal.returns-in-Close
 returns-in-Close g c = performed _ _ _ _ _ _ _ _ _ _ c.in-Close.is c.close.ensures

@@ -1,4 +1,4 @@
-use Rattle.std.proofs.Common.{◌≡◌, ◌+◌, ◌<◌, ◌≤◌, ℕ, List, Err, Some, refl, sym, ap, subst, arith, ◌∙◌, inl, inr, length, take}
+use Rattle.std.proofs.Common.{◌≡◌, ◌+◌, ◌<◌, ◌≤◌, ℕ, List, Err, Some, refl, sym, ap, subst, arith, rules, ◌∙◌, inl, inr, length, take}
 use Rattle.std.specs.Prelude.{if◌then◌else◌, min, nat_lt, Ok}
 use Rattle.std.proofs.lemmas.List.{length-take}
 use Rattle.fs_cred.specs.declared.errno.Errno.TheVariants.{EFBIG, ENOSPC}
@@ -11,7 +11,7 @@ use Rattle.file_calls.specs.Places.{write_through, write_most}
 use Rattle.fs_cred.specs.declared.refusal.Refusal.{Refusal}
 use Rattle.fs_cred.specs.declared.refusal.Refusal.TheVariants.{Failed}
 use Rattle.fs_layout.specs.declared.inode.Inode.{Inode}
-use Rattle.fs_layout.specs.Bytes.{SectorMap}
+use Rattle.fs_layout.specs.Bytes.{SectorMap, IsBytes}
 use Rattle.fs_layout.specs.Images.{inode_at, free_sectors}
 use Rattle.fs_model.specs.Limits.{free_for}
 use Rattle.bit_alloc.proofs.Transactions.{spare_unchanged, unchanged_nothing}
@@ -34,7 +34,7 @@ pub returns-then-is_empty : goal.returns-then-is_empty
 returns-then-is_empty g c =
     let w = c.in_ok-descriptor.ensures.is_open in
     told (write_by c.args.place c.args.bytes.now) unchanged_nothing w (writes_keep c.args.place c.args.bytes.now) (g.S.Sectors.state c.args.s.now) unchanged_nothing (Wrote 0)
-    (λ s at. asks_nothing w.opened (write_most c.args.place) s c.args.bytes.now (empty_if c.args.bytes.now c.bytes-bytes.result.now c.bytes-bytes.ensures.all c.if-is_empty.ensures))
+    (λ s at. asks_nothing w.opened (write_most c.args.place) s c.args.bytes.now (empty_if c.args.bytes.now c.args.bytes.now refl c.if-is_empty.ensures))
 
 pub load_inode-requires-clause-below : goal.load_inode-requires-clause-below
 load_inode-requires-clause-below g c =
@@ -52,7 +52,7 @@ pub returns-then-offset-limit : goal.returns-then-offset-limit
 returns-then-offset-limit g c =
     let far = subst (λ (x : ℕ). x ≤ c.write_offset-offset.result) c.max_file_size-limit.ensures.value c.if-offset-limit.true in
     let w = open_as c.descriptor.view_is c.in_ok-descriptor.ensures.is_open in
-    let some = some_if c.args.bytes.now c.bytes-bytes.result.now c.bytes-bytes.ensures.all c.if-is_empty.ensures in
+    let some = some_if c.args.bytes.now c.args.bytes.now refl c.if-is_empty.ensures in
     let v = c.in_ok-inode.inode in
     let offset = c.write_offset-offset.result in
     let from = subst (λ (x : Descriptor). offset ≡ (if x.append then v.size else x.offset)) (sym c.descriptor.view_is) c.write_offset-offset.ensures in
@@ -66,10 +66,10 @@ ask_to_write-requires g c = (sound_kept c.in_ok-inode.ensures.same c.requires.re
 pub returns-in_err-ask_to_write : goal.returns-in_err-ask_to_write
 returns-in_err-ask_to_write g c =
     let most = write_most c.args.place in
-    let asked_is : c.min-asked.result ≡ min (length c.bytes-bytes.result.now) most = c.min-asked.ensures ∙ ap (min (length c.bytes-bytes.result.now)) c.write_most-most.ensures.most in
+    let asked_is : c.min-asked.result ≡ min (length c.args.bytes.now) most = c.min-asked.ensures ∙ ap (min (length c.args.bytes.now)) c.write_most-most.ensures.most in
     let near = subst (λ (x : ℕ). c.write_offset-offset.result < x) c.max_file_size-limit.ensures.value c.if-offset-limit.false in
     let w = open_as c.descriptor.view_is c.in_ok-descriptor.ensures.is_open in
-    let some = some_if c.args.bytes.now c.bytes-bytes.result.now c.bytes-bytes.ensures.all c.if-is_empty.ensures in
+    let some = some_if c.args.bytes.now c.args.bytes.now refl c.if-is_empty.ensures in
     let v = c.in_ok-inode.inode in
     let first = c.in_ok-inode.ensures.same in
     let is = kept (λ (m : SectorMap). v ≡ inode_at c.args.site.geometry m c.descriptor.inside.ino) first c.in_ok-inode.ensures.found in
@@ -81,7 +81,7 @@ returns-in_err-ask_to_write g c =
     c.from_residual-in_err-ask_to_write.result c.in_err-ask_to_write.field-0.0 r.0 r.1 failed.same.store
     (λ s at. elim failed.fault [
       | inl full ↦ inl (too_full w.opened s at (open_to_write w) v is offset from most c.args.bytes.now some near (subst (λ (n : ℕ). free_sectors c.args.site.geometry (g.S.Sectors.state c.load_inode.new.s).sectors < free_for n)
-          (asked_is ∙ ap (λ (l : List ℕ). min (length l) most) c.bytes-bytes.ensures.all) full.1)
+          (asked_is ∙ ap (λ (l : List ℕ). min (length l) most) refl) full.1)
           ∙ ap (λ (x : Refusal). Some x) (sym full.0))
       | inr read ↦ inr read
     ])
@@ -97,7 +97,7 @@ write_bytes-requires g c =
     let same = unchanged_joined c.in_ok-inode.ensures.same c.in_ok-ask_to_write.ensures.same in
     let counted = c.write_count-count.ensures in
     let near = subst (λ (x : ℕ). c.write_offset-offset.result < x) c.max_file_size-limit.ensures.value c.if-offset-limit.false in
-    let len = length-take c.write_count-count.result c.bytes-bytes.result.now in
+    let len = length-take c.write_count-count.result c.args.bytes.now in
     record {
       ready = record {
         sound = sound_kept same c.requires.ready.sound;
@@ -108,8 +108,8 @@ write_bytes-requires g c =
       file = ap (λ (i : Inode). i.kind) is ∙ file_kind w.opened c.requires.ready.state c.requires.ready.is_state (open_to_write w);
       few = omega (arith, len, counted, c.min-asked.ensures, c.write_most-most.ensures.few);
       fits = omega (arith, len, counted, near);
-      space = kept (λ (m : SectorMap). free_for (length (take c.write_count-count.result c.bytes-bytes.result.now)) ≤ free_sectors c.args.site.geometry m) c.in_ok-ask_to_write.ensures.same
-          (enough_for_some (length (take c.write_count-count.result c.bytes-bytes.result.now)) c.min-asked.result (free_sectors c.args.site.geometry mid.sectors) (omega (arith, len, counted))
+      space = kept (λ (m : SectorMap). free_for (length (take c.write_count-count.result c.args.bytes.now)) ≤ free_sectors c.args.site.geometry m) c.in_ok-ask_to_write.ensures.same
+          (enough_for_some (length (take c.write_count-count.result c.args.bytes.now)) c.min-asked.result (free_sectors c.args.site.geometry mid.sectors) (omega (arith, len, counted))
           (is_enough (free_sectors c.args.site.geometry mid.sectors) (free_for c.min-asked.result) c.in_ok-ask_to_write.ensures.each));
     }
 
@@ -123,12 +123,13 @@ returns-in_err-write_bytes g c =
 
 pub touch-requires : goal.touch-requires
 touch-requires g c =
+    let valid : IsBytes c.args.bytes.now = search rules in
     let most = write_most c.args.place in
-    let asked_is : c.min-asked.result ≡ min (length c.bytes-bytes.result.now) most = c.min-asked.ensures ∙ ap (min (length c.bytes-bytes.result.now)) c.write_most-most.ensures.most in
+    let asked_is : c.min-asked.result ≡ min (length c.args.bytes.now) most = c.min-asked.ensures ∙ ap (min (length c.args.bytes.now)) c.write_most-most.ensures.most in
     let near = subst (λ (x : ℕ). c.write_offset-offset.result < x) c.max_file_size-limit.ensures.value c.if-offset-limit.false in
     let w = open_as c.descriptor.view_is c.in_ok-descriptor.ensures.is_open in
-    let all = c.bytes-bytes.ensures.all in
-    let some = some_if c.args.bytes.now c.bytes-bytes.result.now all c.if-is_empty.ensures in
+    let all = refl in
+    let some = some_if c.args.bytes.now c.args.bytes.now all c.if-is_empty.ensures in
     let offset = c.write_offset-offset.result in
     let v = c.in_ok-inode.inode in
     let from = subst (λ (x : Descriptor). offset ≡ (if x.append then v.size else x.offset)) (sym c.descriptor.view_is) c.write_offset-offset.ensures in
@@ -136,11 +137,11 @@ touch-requires g c =
     let second = c.in_ok-ask_to_write.ensures in
     let done = c.in_ok-write_bytes.ensures in
     let enough = subst (λ (n : ℕ). refused_or {A = Unit {0}} (refuse ENOSPC (nat_lt (free_sectors c.args.site.geometry (g.S.Sectors.state c.load_inode.new.s).sectors) (free_for n))) (Ok tt) ≡ Ok tt) asked_is second.each in
-    let counted = counted_so c.write_count-count.result c.min-asked.result (length c.bytes-bytes.result.now) most _ asked_is c.write_count-count.ensures in
+    let counted = counted_so c.write_count-count.result c.min-asked.result (length c.args.bytes.now) most _ asked_is c.write_count-count.ensures in
     let ready = ready_kept (unchanged_joined first.same second.same) c.requires.ready in
     let s = ready.state in
     may_touch ready done.store
-    (wrote w first.same second.same first.found from near most all some c.bytes-bytes.ensures.valid enough counted done.made s ready.is_state (tables_in s) (λ n was. was))
+    (wrote w first.same second.same first.found from near most all some valid enough counted done.made s ready.is_state (tables_in s) (λ n was. was))
     (open_below w.opened s ready.is_state, tt) 40 done.taken (omega arith)
 
 pub returns-in_err-touch : goal.returns-in_err-touch
@@ -154,13 +155,14 @@ seek_at-requires g c = opened_ok c.in_ok-descriptor.ensures.is_open.opened
 
 pub returns : goal.returns
 returns g c =
+    let valid : IsBytes c.args.bytes.now = search rules in
     let most = write_most c.args.place in
-    let asked_is : c.min-asked.result ≡ min (length c.bytes-bytes.result.now) most = c.min-asked.ensures ∙ ap (min (length c.bytes-bytes.result.now)) c.write_most-most.ensures.most in
+    let asked_is : c.min-asked.result ≡ min (length c.args.bytes.now) most = c.min-asked.ensures ∙ ap (min (length c.args.bytes.now)) c.write_most-most.ensures.most in
     let place = c.args.place in
     let tables = both c.args.procs.now c.args.openings.now.0 in
     let w = open_as c.descriptor.view_is c.in_ok-descriptor.ensures.is_open in
-    let all = c.bytes-bytes.ensures.all in
-    let some = some_if c.args.bytes.now c.bytes-bytes.result.now all c.if-is_empty.ensures in
+    let all = refl in
+    let some = some_if c.args.bytes.now c.args.bytes.now all c.if-is_empty.ensures in
     let near = subst (λ (x : ℕ). c.write_offset-offset.result < x) c.max_file_size-limit.ensures.value c.if-offset-limit.false in
     let offset = c.write_offset-offset.result in
     let from = subst (λ (x : Descriptor). offset ≡ (if x.append then c.in_ok-inode.inode.size else x.offset)) (sym c.descriptor.view_is) c.write_offset-offset.ensures in
@@ -168,7 +170,7 @@ returns g c =
     let second = c.in_ok-ask_to_write.ensures in
     let done = c.in_ok-write_bytes.ensures in
     let enough = subst (λ (n : ℕ). refused_or {A = Unit {0}} (refuse ENOSPC (nat_lt (free_sectors c.args.site.geometry (g.S.Sectors.state c.load_inode.new.s).sectors) (free_for n))) (Ok tt) ≡ Ok tt) asked_is second.each in
-    let counted = counted_so c.write_count-count.result c.min-asked.result (length c.bytes-bytes.result.now) most _ asked_is c.write_count-count.ensures in
+    let counted = counted_so c.write_count-count.result c.min-asked.result (length c.args.bytes.now) most _ asked_is c.write_count-count.ensures in
     let count = c.write_count-count.result in
     let to = offset + count in
     let table = c.in_ok-descriptor.ensures.table in
@@ -176,5 +178,5 @@ returns g c =
     (changed_tree (write_by place c.args.bytes.now) (unchanged_joined first.same second.same) w (g.S.Sectors.state c.write_bytes.new.s) (moved_in tables place to) done.store done.made.super
     c.in_ok-touch.ensures.made (with_offset w.opened.process (fd_of place) to) (Wrote count)
     (moved_left tables place (write_through place c.args.bytes.now) w.opened.process w.opened.there (writes_keep place c.args.bytes.now) to)
-    (λ s at. wrote w first.same second.same first.found from near most all some c.bytes-bytes.ensures.valid enough counted done.made s at
+    (λ s at. wrote w first.same second.same first.found from near most all some valid enough counted done.made s at
     (moved_in tables place to) (still_moved w.opened table s at to)))
