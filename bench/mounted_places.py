@@ -49,7 +49,8 @@ def namespaces(mounted, told):
     """In another namespace of mounts it is still there."""
     mounted.begin()
     holder = subprocess.Popen(['unshare', '-m', '--propagation', 'private', 'sleep', '60'])
-    while os.readlink(f'/proc/{holder.pid}/ns/mnt') == os.readlink('/proc/self/ns/mnt'):
+    # Before it sleeps the namespace may still share unmounts with this one.
+    while pathlib.Path(f'/proc/{holder.pid}/comm').read_text() != 'sleep\n':
         time.sleep(0.01)
     told.compare('places', 'unmount beside another namespace', None, at_once(mounted, mounted.mount), (0, True))
     holder.kill()
