@@ -27,7 +27,7 @@ use Rattle.fuse_plans.specs.declared.reply.Response.{Response}
 use Rattle.fuse_plans.specs.declared.reply.Response.TheVariants.{Silence, Says, Fails}
 use Rattle.fuse_plans.specs.declared.request.Asked.{Asked}
 use Rattle.fuse_plans.specs.declared.request_error.RequestError.{RequestError}
-use Rattle.fuse_plans.specs.Plans.{Plan, Finish, Ask, followed_by, IsRunOf, IsAsked, at_once, later}
+use Rattle.fuse_plans.specs.Plans.{Plan, Finish, Ask, followed_by, IsRunOf, IsAsked, at_once, later, KeepsTo}
 use Rattle.fuse_plans.specs.Requests.{asked_of}
 use Rattle.fuse_plans.specs.Works.{Work, give, fail, kept, keep, goes_on, ◌>>=◌, attempt, ask, give_unless, refusal_in, unless_refused, obtain, replied_opened}
 use Rattle.fuse_plans.specs.Callers.{inside, of_object, on}
@@ -35,15 +35,13 @@ use Rattle.fuse_plans.specs.NamePlans.{removal, remove, rename, move_name}
 use Rattle.fuse_plans.specs.AclPlans.{set_acl, set_xattr, remove_xattr}
 use Rattle.fuse_plans.specs.FilePlans.{open_object, open_file}
 use Rattle.fuse_plans.specs.Nobody.{who_counts_in, is_nobody}
-use Rattle.fuse_plans.specs.Serving.{Task, Replying, Silent, plan_of, told_first, asked_for, response_of, answered, answered_as, request_plan}
+use Rattle.fuse_plans.specs.Serving.{Task, Replying, Silent, plan_of, asked_for, response_of, answered, answered_as, request_plan}
 use Rattle.fuse_plans.specs.Alterations.{alterations_by, alterations_in, says_change, changes_at_once, MayBeAsked}
 use Rattle.fuse_plans.specs.Laws.{IsReplyTo, FailuresChangeNothing}
 use Rattle.fuse_plans.proofs.AllEnds.{AllEnd, all-followed_by, all-run}
-use Rattle.fuse_plans.proofs.AlterPieces.{changes_none, Obeys, saying, Heeds, heeds-needed, heeds-tell_time, heeds-the_number}
-use Rattle.fuse_plans.proofs.AlterMasks.{obeys-who_counts_in}
-use Rattle.fuse_plans.proofs.AlterNames.{heeds-directory_for, heeds-number_named, heeds-may_move, heeds-nothing_to_replace}
-use Rattle.fuse_plans.proofs.AlterFiles.{heeds-ask_first}
-use Rattle.fuse_plans.proofs.AlterRequests.{heeds-acl_set, heeds-or_not_for_files}
+use Rattle.fuse_plans.proofs.PlanLaws.{Whatever, IfReplies, replies-told}
+use Rattle.fuse_plans.proofs.Said.{changes_none}
+use Rattle.fuse_plans.proofs.Looks.{looking, SameNodes, Looks, looks-needed, looks-tell_time, looks-the_number, looks-directory_for, looks-number_named, looks-may_move, looks-nothing_to_replace, looks-ask_first, looks-acl_set, looks-or_not_for_files, looks-who_counts_in}
 
 -- ---- plans
 
@@ -78,7 +76,7 @@ quiet-event Statfs reply may changed = changed.says refl
 quiet-event (Arm after) reply may changed = may
 quiet-event (Restart choice arm) reply may changed = may
 
-spares-quiet : {X Y : Type 0} (E : X → Type 0) (F : Y → Type 0) (p : Plan X) (f : X → Plan Y) → Obeys (MayBeAsked None) E p → ((x : X) → SparesFailures F (f x))
+spares-quiet : {X Y : Type 0} (E : Unit {0} → X → Type 0) (F : Y → Type 0) (p : Plan X) (f : X → Plan Y) → KeepsTo looking E tt p → ((x : X) → SparesFailures F (f x))
     → SparesFailures F (followed_by p f)
 spares-quiet E F (Finish x) f quiet rest = rest x
 spares-quiet E F (Ask e next) f quiet rest =
@@ -126,9 +124,9 @@ sure-kept : {X : Type 0} (f : Server → Server) (g : Server → X) → Sure (ke
 unfolding kept keep ◌>>=◌
 sure-kept f g = record { at = λ s stopped. stopped }
 
-quiet->>= : {X Y : Type 0} {w : Work X} {f : X → Work Y} → Heeds (saying None) w → ((x : X) → Clean (f x)) → Clean (w >>= f)
+quiet->>= : {X Y : Type 0} {w : Work X} {f : X → Work Y} → Looks w → ((x : X) → Clean (f x)) → Clean (w >>= f)
 unfolding ◌>>=◌
-quiet->>= {X} {Y} {w} {f} quiet rest = record { at = λ s. spares-quiet (λ r. Unit {0}) IsFailure (w s) (goes_on f) (quiet.at s) next }
+quiet->>= {X} {Y} {w} {f} quiet rest = record { at = λ s. spares-quiet (SameNodes s) IsFailure (w s) (goes_on f) (quiet.at s) next }
   where
     next : (r : Result X RequestError × Server) → SparesFailures IsFailure (goes_on f r)
     next (Ok x, t) = (rest x).at t
@@ -224,48 +222,47 @@ clean-opened {X} cred n flags mode rest surely = record { at = λ s reply. ((λ 
 
 clean-remove : (r : Asked) (call : List ℕ → Call) (name : List ℕ) → Clean (remove r call name)
 clean-remove r call name =
-    quiet->>= (heeds-directory_for r.node name) (λ d.
-    quiet->>= (heeds-needed _ r.cred) (λ cred.
-    quiet->>= (heeds-number_named d name) (λ gone. clean->>= (clean-inside cred d (call name)) (λ reply. sure-keep _ _))))
+    quiet->>= (looks-directory_for r.node name) (λ d.
+    quiet->>= (looks-needed _ r.cred) (λ cred.
+    quiet->>= (looks-number_named d name) (λ gone. clean->>= (clean-inside cred d (call name)) (λ reply. sure-keep _ _))))
 
 clean-rename : (now : Time) (cred : Credential) (d : ℕ) (name : List ℕ) (new : ℕ) (new_name : List ℕ) → Clean (rename now cred d name new new_name)
 clean-rename now cred d name new new_name =
-    quiet->>= (heeds-number_named d name) (λ object.
-    quiet->>= (heeds-number_named new new_name) (λ replaced. clean->>= (clean-obtain _) (λ moved. sure-keep _ _)))
+    quiet->>= (looks-number_named d name) (λ object.
+    quiet->>= (looks-number_named new new_name) (λ replaced. clean->>= (clean-obtain _) (λ moved. sure-keep _ _)))
 
 clean-move_name : (r : Asked) (name : List ℕ) (new_node : ℕ) (new_name : List ℕ) (flags : ℕ) → Clean (move_name r name new_node new_name flags)
 clean-move_name r name new_node new_name flags =
-    quiet->>= (heeds-may_move name new_name flags) (λ may.
-    quiet->>= (heeds-the_number r.node) (λ d.
-    quiet->>= (heeds-the_number new_node) (λ new.
-    quiet->>= (heeds-needed _ r.cred) (λ cred.
-    quiet->>= (heeds-nothing_to_replace flags cred new new_name) (λ none. clean-rename r.now cred d name new new_name)))))
+    quiet->>= (looks-may_move name new_name flags) (λ may.
+    quiet->>= (looks-the_number r.node) (λ d.
+    quiet->>= (looks-the_number new_node) (λ new.
+    quiet->>= (looks-needed _ r.cred) (λ cred.
+    quiet->>= (looks-nothing_to_replace flags cred new new_name) (λ none. clean-rename r.now cred d name new new_name)))))
 
 clean-open_object : (now : Time) (cred : Credential) (n flags : ℕ) (mode : Mode) → Clean (open_object now cred n flags mode)
 clean-open_object now cred n flags mode =
-    quiet->>= (heeds-ask_first cred n flags) (λ first. clean-opened _ n _ 0 _ (λ opened. sure-kept _ _))
+    quiet->>= (looks-ask_first cred n flags) (λ first. clean-opened _ n _ 0 _ (λ opened. sure-kept _ _))
 
 clean-open_file : (r : Asked) (flags : ℕ) → Clean (open_file r flags)
 clean-open_file r flags =
-    quiet->>= (heeds-the_number r.node) (λ n.
-    quiet->>= (heeds-needed _ _) (λ mode. quiet->>= (heeds-needed _ r.cred) (λ cred. clean-open_object r.now cred n flags mode)))
+    quiet->>= (looks-the_number r.node) (λ n.
+    quiet->>= (looks-needed _ _) (λ mode. quiet->>= (looks-needed _ r.cred) (λ cred. clean-open_object r.now cred n flags mode)))
 
 clean-set_acl : (r : Asked) (which : AclType) (wanted : Option AccessList) → Clean (set_acl r which wanted)
 clean-set_acl r which wanted =
-    quiet->>= (heeds-the_number r.node) (λ n.
-    quiet->>= (heeds-needed _ r.cred) (λ cred.
-    quiet->>= (heeds-acl_set n which wanted) (λ acl.
-    clean-attempt _ (clean-on cred n _) (λ reply. sure-then _ _ _) (λ e. quiet->>= (heeds-or_not_for_files (Err e)) (λ went. clean-keep _ _)))))
+    quiet->>= (looks-the_number r.node) (λ n.
+    quiet->>= (looks-needed _ r.cred) (λ cred.
+    quiet->>= (looks-acl_set n which wanted) (λ acl.
+    clean-attempt _ (clean-on cred n _) (λ reply. sure-then _ _ _) (λ e. quiet->>= (looks-or_not_for_files (Err e)) (λ went. clean-keep _ _)))))
 
 clean-set_xattr : (r : Asked) (name : List ℕ) (value : Option (Option AccessList)) → Clean (set_xattr r name value)
-clean-set_xattr r name value = quiet->>= (heeds-needed _ _) (λ which. quiet->>= (heeds-needed _ value) (λ acl. clean-set_acl r which acl))
+clean-set_xattr r name value = quiet->>= (looks-needed _ _) (λ which. quiet->>= (looks-needed _ value) (λ acl. clean-set_acl r which acl))
 
 clean-remove_xattr : (r : Asked) (name : List ℕ) → Clean (remove_xattr r name)
-clean-remove_xattr r name = quiet->>= (heeds-needed _ _) (λ which. clean-set_acl r which None)
+clean-remove_xattr r name = quiet->>= (looks-needed _ _) (λ which. clean-set_acl r which None)
 
 abbrev CleanIfAny : Task → Type 0
-CleanIfAny Silent = Unit {0}
-CleanIfAny (Replying w) = Clean w
+CleanIfAny task = IfReplies (λ w. Clean w) task
 
 clean-plan : (r : Asked) (value : Option (Option AccessList)) (operation : Operation) → changes_at_once operation ≡ true → CleanIfAny (plan_of r value operation)
 clean-plan r value (Unlink name) is = clean-remove r (removal false) name
@@ -277,14 +274,10 @@ clean-plan r value (RemoveXAttr name) is = clean-remove_xattr r name
 clean-plan r value _ is = absurd (let no : false ≡ true = is in cc)
 
 -- telling the time changes nothing
-clean-told_first : (says : Bool) (now : Time) (work : Task) → CleanIfAny work → CleanIfAny (told_first says now work)
-clean-told_first false now work clean = clean
-clean-told_first true now Silent clean = tt
-clean-told_first true now (Replying w) clean = quiet->>= (heeds-tell_time now) (λ told. clean)
-
 clean-asked : (r : Asked) (value : Option (Option AccessList)) (operation : Operation) → changes_at_once operation ≡ true
     → CleanIfAny (asked_for r value (Some operation))
-clean-asked r value operation is = clean-told_first (says_change operation) r.now (plan_of r value operation) (clean-plan r value operation is)
+clean-asked r value operation is =
+    replies-told (λ w. Clean w) r.now (λ w clean. quiet->>= (looks-tell_time r.now) (λ told. clean)) (says_change operation) _ (clean-plan r value operation is)
 
 -- ---- runs
 
@@ -330,8 +323,8 @@ failures_change_nothing r s t operation e es replies asked reply after is at_onc
   where
     spares : SparesFailures HasFailed (request_plan r s)
     spares =
-        spares-quiet (λ x. Unit {0}) HasFailed (who_counts_in r.node r.uid r.operation s) (λ who. answered_as (is_nobody who) r s)
-        (obeys-who_counts_in (saying None) r.node r.uid r.operation s)
+        spares-quiet Whatever HasFailed (who_counts_in r.node r.uid r.operation s) (λ who. answered_as (is_nobody who) r s)
+        (looks-who_counts_in r.node r.uid r.operation s)
         (λ who.
         subst (λ o. SparesFailures HasFailed (answered r.memory (asked_for (asked_of r (is_nobody who)) r.value o) s)) (sym is)
         (spares-answered r.memory (asked_for (asked_of r (is_nobody who)) r.value (Some operation)) s (clean-asked (asked_of r (is_nobody who)) r.value operation at_once_so)))

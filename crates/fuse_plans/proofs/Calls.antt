@@ -1,5 +1,5 @@
 -- How calls behave: on an object, on a name, and by a handle.
---     may-later        what may be asked may be asked later too
+--     run-later, told-later, granted-later, ..        what may be asked may be asked later too
 --     WasAsked, WasGranted        an event with its reply
 --     IsOpened, About        what was opened for the request; an object that it is about, or was told of
 --     does-ask, does-obtain, does-on, does-inside        one event
@@ -36,8 +36,9 @@ use Rattle.fuse_plans.specs.Callers.{server_credential, actor_in, who_asks, insi
 use Rattle.fuse_plans.specs.Times.{tell_time, told_stamps}
 use Rattle.fuse_plans.specs.Masks.{list_of, acl_of, may_hide, hides, list_hides}
 use Rattle.fuse_plans.specs.Acts.{Subject, AskedBefore, IsObject, of_node, IsToldOf, path_of, Concerns, on_object, on_told, on_name, on_new_name, moves, links, lists}
-use Rattle.fuse_plans.specs.Conduct.{Rights, only_looks, MayRun, MayCall, as_who_asks, as_server, to_run, MayCallBy, given, opened_here, asks, MayAsk, conduct}
-use Rattle.fuse_plans.proofs.Conducts.{Extends, has-last, extends-more, Still, still-number, Fits, LeftTo, DoesTo, Does, gives, does-give, does-fail, does-kept, does-needed, then->>=, does->>=, forget}
+use Rattle.fuse_plans.specs.Alterations.{alterations_by, AreTold}
+use Rattle.fuse_plans.specs.Conduct.{Rights, only_looks, MayRun, MayCall, as_who_asks, as_server, to_run, MayCallBy, given, opened_here, asks, MayAsk}
+use Rattle.fuse_plans.proofs.Conducts.{MayDo, doing, Extends, has-last, extends-more, Still, still-number, Fits, LeftTo, DoesTo, Does, gives, does-give, does-fail, does-kept, does-needed, then->>=, does->>=, forget}
 
 -- ---- what may be asked later too
 
@@ -72,7 +73,7 @@ concerns-later more (moves old_name new_name is from to) = moves old_name new_na
 concerns-later more (links name is object to) = links name is object to
 concerns-later more (lists d name extent starts number asked is) = lists d name extent starts number asked is
 
-pub may-later : (rights : Rights) {old new : AskedBefore} → Extends old new → (e : Event) → MayAsk rights old e → MayAsk rights new e
+may-later : (rights : Rights) {old new : AskedBefore} → Extends old new → (e : Event) → MayAsk rights old e → MayAsk rights new e
 may-later rights more (CallAt actor call) may = (may_call-later more may.0, concerns-later more may.1)
 may-later rights more (CallBy handle call) may = may_call_by-later more may
 may-later rights more (Stamp n atime mtime ctime) may = may
@@ -104,11 +105,11 @@ pub opened-told : {past : AskedBefore} {handle n : ℕ} → IsOpened past handle
 opened-told {past} {handle} {n} opened = record { event = opened.event; reply = Opened handle n; was_asked = opened.was; tells = refl }
 
 -- what was opened may be listed and closed, where the request gives no handle
-pub may-close : {rights : Rights} {past : AskedBefore} {handle n : ℕ} → rights.handle ≡ None → IsOpened past handle n → MayAsk rights past (CallBy handle by_handle.Close)
-may-close {n = n} alone opened = opened_here alone opened.event n opened.was refl
+pub may-close : {rights : Rights} {past : AskedBefore} {handle n : ℕ} → rights.handle ≡ None → IsOpened past handle n → MayDo rights past (CallBy handle by_handle.Close)
+may-close {n = n} alone opened = (opened_here alone opened.event n opened.was refl, tt)
 
-pub may-list : {rights : Rights} {past : AskedBefore} {handle n : ℕ} → rights.handle ≡ None → IsOpened past handle n → MayAsk rights past (CallBy handle by_handle.List)
-may-list {n = n} alone opened = opened_here alone opened.event n opened.was refl
+pub may-list : {rights : Rights} {past : AskedBefore} {handle n : ℕ} → rights.handle ≡ None → IsOpened past handle n → MayDo rights past (CallBy handle by_handle.List)
+may-list {n = n} alone opened = (opened_here alone opened.event n opened.was refl, tt)
 
 -- ---- objects
 
@@ -128,25 +129,25 @@ concerns-about {n = n} cred call path (an_object object) = on_object n (record {
 concerns-about {n = n} cred call path (was_told told) = on_told n (record { first = refl; second = refl }) told path
 
 -- the server may look at it
-pub looks-at : {rights : Rights} {past : AskedBefore} {n : ℕ} (call : Call) → IsTrue (only_looks call) → path_of call ≡ Some [] → About rights past n
-    → MayAsk rights past (CallAt (actor_in server_credential n) call)
-looks-at call only path about = (as_server refl only, concerns-about server_credential call path about)
+pub looks-at : {rights : Rights} {past : AskedBefore} {n : ℕ} (call : Call) → IsTrue (only_looks call) → path_of call ≡ Some []
+    → AreTold rights.subject.operation (alterations_by call) → About rights past n → MayDo rights past (CallAt (actor_in server_credential n) call)
+looks-at call only path told about = ((as_server refl only, concerns-about server_credential call path about), told)
 
--- who asks may do with it what they may
-pub acts-on : {rights : Rights} {past : AskedBefore} {n : ℕ} {cred : Credential} (call : Call) → rights.cred ≡ Some cred → path_of call ≡ Some [] → About rights past n
-    → MayAsk rights past (CallAt (actor_in cred n) call)
-acts-on {cred = cred} call is path about = (as_who_asks is, concerns-about cred call path about)
+-- who asks may do with it what they may, and say
+pub acts-on : {rights : Rights} {past : AskedBefore} {n : ℕ} {cred : Credential} (call : Call) → rights.cred ≡ Some cred → path_of call ≡ Some []
+    → AreTold rights.subject.operation (alterations_by call) → About rights past n → MayDo rights past (CallAt (actor_in cred n) call)
+acts-on {cred = cred} call is path told about = ((as_who_asks is, concerns-about cred call path about), told)
 
 -- ---- one event
 
 module _ {rights : Rights} {P : Server → Type 0} {known : AskedBefore} where
-  pub does-ask : (e : Event) → MayAsk rights known e → DoesTo rights P known (λ past reply. WasAsked past e reply) (ask e)
+  pub does-ask : (e : Event) → MayDo rights known e → DoesTo rights P known (λ past reply. WasAsked past e reply) (ask e)
   unfolding ask
   does-ask e may = record {
     goes = λ past s fits. (
-      may-later rights fits.since e may,
+      (may-later rights fits.since e may.0, may.1),
       λ reply. (
-        record { since = extends-more (e, reply) fits.since; shares = fits.shares; clock = fits.clock; holds = fits.holds },
+        record { since = extends-more (e, reply) fits.since; shares = fits.shares; clock = fits.clock; times = fits.times; holds = fits.holds },
         record { was = has-last past (e, reply) },
       ),
     );
@@ -163,20 +164,20 @@ module _ {rights : Rights} {P : Server → Type 0} {known : AskedBefore} where
   does-of_object e reply (Some r) is asked = does-fail _
 
 module _ {rights : Rights} {P : Server → Type 0} {known : AskedBefore} where
-  pub does-obtain : (e : Event) → MayAsk rights known e → DoesTo rights P known (λ past reply. WasGranted past e reply) (obtain e)
+  pub does-obtain : (e : Event) → MayDo rights known e → DoesTo rights P known (λ past reply. WasGranted past e reply) (obtain e)
   does-obtain e may = then->>= (does-ask e may) (λ reply now more asked. does-give_unless e reply (refusal_in reply) refl asked)
 
-  pub does-on : (cred : Credential) (n : ℕ) (call : Call) → MayAsk rights known (CallAt (actor_in cred n) call)
+  pub does-on : (cred : Credential) (n : ℕ) (call : Call) → MayDo rights known (CallAt (actor_in cred n) call)
       → DoesTo rights P known (λ past reply. WasGranted past (CallAt (actor_in cred n) call) reply) (on cred n call)
   unfolding on
   does-on cred n call may = then->>= (does-ask _ may) (λ reply now more asked. does-of_object _ reply (refusal_in reply) refl asked)
 
-  pub does-inside : (cred : Credential) (d : ℕ) (call : Call) → MayAsk rights known (CallAt (actor_in cred d) call)
+  pub does-inside : (cred : Credential) (d : ℕ) (call : Call) → MayDo rights known (CallAt (actor_in cred d) call)
       → DoesTo rights P known (λ past reply. WasGranted past (CallAt (actor_in cred d) call) reply) (inside cred d call)
   unfolding inside
   does-inside cred d call may = does-obtain _ may
 
-  pub does-look_inside : (cred : Credential) (d : ℕ) (name : List ℕ) → MayAsk rights known (CallAt (actor_in cred d) (Lstat name))
+  pub does-look_inside : (cred : Credential) (d : ℕ) (name : List ℕ) → MayDo rights known (CallAt (actor_in cred d) (Lstat name))
       → Does rights P known (look_inside cred d name)
   unfolding look_inside
   does-look_inside cred d name may = does->>= (does-inside cred d _ may) (λ reply. forget (does-needed _ _))
@@ -200,10 +201,10 @@ module _ {rights : Rights} {P : Server → Type 0} {known : AskedBefore} where
 
   pub does-look : (n : ℕ) → About rights known n → Does rights P known (look n)
   unfolding look
-  does-look n about = does->>= (does-on _ n _ (looks-at (Lstat []) refl refl about)) (λ reply. forget (does-needed _ _))
+  does-look n about = does->>= (does-on _ n _ (looks-at (Lstat []) refl refl tt about)) (λ reply. forget (does-needed _ _))
 
   pub does-list_of : (n : ℕ) (which : AclType) → About rights known n → Does rights P known (list_of n which)
-  does-list_of n which about = does->>= (does-on _ n _ (looks-at (GetAcl [] which) refl refl about)) (λ reply. forget (does-needed _ _))
+  does-list_of n which about = does->>= (does-on _ n _ (looks-at (GetAcl [] which) refl refl tt about)) (λ reply. forget (does-needed _ _))
 
   -- ---- times
 
@@ -218,11 +219,11 @@ module _ {rights : Rights} {P : Server → Type 0} {known : AskedBefore} where
   pub does-told_stamps : (n : ℕ) → Does rights P known (told_stamps n)
   unfolding told_stamps
   does-told_stamps n =
-      does-if_kept _ _ (does->>= (does-ask (Stamp n None None None) asks) (λ reply. does->>= (does-needed _ _) (λ stamps. does-give _))) (does-give None)
+      does-if_kept _ _ (does->>= (does-ask (Stamp n None None None) (asks, tt)) (λ reply. does->>= (does-needed _ _) (λ stamps. does-give _))) (does-give None)
 
   pub does-tell_time : (now : Time) → Does rights P known (tell_time now)
   unfolding tell_time
-  does-tell_time now = does-if_kept _ _ (does->>= (does-ask (Clock (stamp_of now)) tt) (λ reply. does-give tt)) (does-give tt)
+  does-tell_time now = does-if_kept _ _ (does->>= (does-ask (Clock (stamp_of now)) (tt, tt)) (λ reply. does-give tt)) (does-give tt)
 
 module _ {rights : Rights} {P : Server → Type 0} {known : AskedBefore} where
   pub does-acl_of : (n : ℕ) (which : AclType) → About rights known n → Does rights P known (acl_of n which)
@@ -260,7 +261,7 @@ module _ {rights : Rights} {known : AskedBefore} where
   gives-number node = record { goes = λ past s fits. found past s fits (number_of_node s node) refl }
     where
       found : (past : AskedBefore) (s : Server) → Fits rights (Still rights) known past s → (o : Option ℕ) → number_of_node s node ≡ o
-          → KeepsTo (conduct rights) (LeftTo rights (Still rights) known (λ past n. WasNumber rights node n)) past (needed (Lacks ESTALE) o s)
+          → KeepsTo (doing rights) (LeftTo rights (Still rights) known (λ past n. WasNumber rights node n)) past (needed (Lacks ESTALE) o s)
       found past s fits None is = fits
       found past s fits (Some n) is = (fits, sym (still-number fits.holds node) ∙ is)
 

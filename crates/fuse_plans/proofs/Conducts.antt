@@ -1,56 +1,38 @@
 -- How pieces of plans behave, and those that are made of them. What is remembered are the events so far with their replies.
---     keeps-followed_by, keeps-weaker, keeps->>=        plans one after another
+--     MayDo, doing        what may be asked, of which no more may change than the request says
 --     Extends        what was asked before stays asked
 --     begins        a server fits when the request begins
 --     Still        nodes lead where they did when the request began
 --     Fits, DoesTo, Does, Lasts        what a piece keeps to; of the last one no more than shares are asked
 --     does-give, does-keep, then->>=, with->>=, does->>=, does-attempt, lasts->>=, ..        the pieces
-use Rattle.std.specs.Prelude.{◌≡◌, ℕ, suc, Bool, true, false, [], ◌∷◌, Option, None, Some, Result, Ok, Err, IsTrue, if◌then◌else◌}
+use Rattle.std.specs.Prelude.{◌≡◌, ℕ, suc, Bool, true, false, List, [], ◌∷◌, Option, None, Some, Result, Ok, Err, IsTrue, IsFalse, if◌then◌else◌}
 use Rattle.std.specs.List.{Contains}
 use Rattle.std.proofs.Common.{refl, sym, ap, subst, ◌∙◌, arith}
 use Rattle.fs_model.specs.declared.event.Event.{Event}
 use Rattle.fs_model.specs.declared.reply.Reply.{Reply}
 use Rattle.fuse_protocol.specs.declared.reply.Time.{Time}
+use Rattle.fuse_state.specs.declared.times.Times.{Times}
 use Rattle.fuse_state.specs.Servers.{Server, number_of_node, WithinShares}
 use Rattle.fuse_state.proofs.Holders.{Holding, holding_of, same_within}
-use Rattle.fuse_plans.specs.Plans.{Plan, Finish, Ask, followed_by, Restraint, KeepsTo}
+use Rattle.fuse_plans.specs.Plans.{Finish, Restraint, KeepsTo}
 use Rattle.fuse_plans.specs.declared.request_error.RequestError.{RequestError}
-use Rattle.fuse_plans.specs.Works.{Work, give, fail, kept, keep, goes_on, ◌>>=◌, attempt, of_result, needed}
+use Rattle.fuse_plans.specs.Works.{Work, give, fail, kept, keep, ◌>>=◌, attempt, of_result, needed}
 use Rattle.fuse_plans.specs.FilePlans.{when, done}
 use Rattle.fuse_plans.specs.Acts.{AskedBefore}
 use Rattle.fuse_plans.specs.KeepingDue.{clock_of}
-use Rattle.fuse_plans.specs.Conduct.{Rights, conduct}
+use Rattle.fuse_plans.specs.Alterations.{adds_name, says_change_in, MayBeAsked}
+use Rattle.fuse_plans.specs.Conduct.{Rights, MayAsk}
+use Rattle.fuse_plans.proofs.PlanLaws.{keeps-followed_by, keeps-weaker, keeps->>=}
+use Rattle.fuse_plans.proofs.Said.{Told, changing, makes_in, making-it}
 
--- ---- plans
+-- ---- what may be asked
 
-pub keeps-followed_by : {M X Y : Type 0} (rule : Restraint M) (E : M → X → Type 0) (F : M → Y → Type 0) (p : Plan X) (f : X → Plan Y) (m : M)
-    → KeepsTo rule E m p → ((n : M) (x : X) → E n x → KeepsTo rule F n (f x)) → KeepsTo rule F m (followed_by p f)
-keeps-followed_by rule E F (Finish x) f m first rest = rest m x first
-keeps-followed_by rule E F (Ask e next) f m first rest = (
-  first.0,
-  λ reply. keeps-followed_by rule E F (next reply) f (rule.after m e reply) (first.1 reply) rest,
-)
+-- as who asks or by the server, on what the request is about; and it changes no more than the request says
+abbrev pub MayDo : Rights → AskedBefore → Event → Type 0
+MayDo rights past e = MayAsk rights past e × MayBeAsked rights.subject.operation e
 
-pub keeps-weaker : {M X : Type 0} (rule : Restraint M) (E F : M → X → Type 0) (p : Plan X) (m : M)
-    → KeepsTo rule E m p → ((n : M) (x : X) → E n x → F n x) → KeepsTo rule F m p
-keeps-weaker rule E F (Finish x) m first weaker = weaker m x first
-keeps-weaker rule E F (Ask e next) m first weaker = (
-  first.0,
-  λ reply. keeps-weaker rule E F (next reply) (rule.after m e reply) (first.1 reply) weaker,
-)
-
--- one piece after another, where what the first leaves is enough for the second
-pub keeps->>= : {M X Y : Type 0} (rule : Restraint M) (E : M → Result X RequestError × Server → Type 0) (F : M → Result Y RequestError × Server → Type 0)
-    (w : Work X) (f : X → Work Y) (m : M) (s : Server)
-    → KeepsTo rule E m (w s)
-    → ((n : M) (x : X) (t : Server) → E n (Ok x, t) → KeepsTo rule F n (f x t))
-    → ((n : M) (e : RequestError) (t : Server) → E n (Err e, t) → F n (Err e, t)) → KeepsTo rule F m ((w >>= f) s)
-unfolding ◌>>=◌
-keeps->>= {M} {X} {Y} rule E F w f m s first ok err = keeps-followed_by rule E F (w s) (goes_on f) m first after
-  where
-    after : (n : M) (r : Result X RequestError × Server) → E n r → KeepsTo rule F n (goes_on f r)
-    after n (Ok x, t) left = ok n x t left
-    after n (Err e, t) left = err n e t left
+abbrev pub doing : Rights → Restraint AskedBefore
+doing rights = record { after = λ past e reply. (e, reply) ∷ past; may_ask = MayDo rights }
 
 -- ---- what was asked before
 
@@ -90,11 +72,12 @@ pub still-number : {rights : Rights} {s : Server} → Still rights s → (node :
 still-number {rights} {s} still node = ap (λ g. number_of_node (record s { generations = g }) node) still.generations
 
 -- what is held of open directories, and from when on is counted for what is due
-abbrev Kept : Type 0
-Kept = Holding × (Time × ℕ)
-
-abbrev pub kept_of : Server → Kept
+abbrev pub kept_of : Server → Holding × (Time × ℕ)
 kept_of s = (holding_of s, clock_of s)
+
+-- by which it is known what times objects have
+abbrev pub times_kept : Server → List (ℕ × Times) × Time
+times_kept s = (s.times, s.settings.start)
 
 -- that stays
 abbrev pub SameHeld : (Server → Server) → Type 0
@@ -104,14 +87,19 @@ SameHeld f = (s : Server) → kept_of (f s) ≡ kept_of s
 abbrev pub SameAll : (Server → Server) → Type 0
 SameAll f = (s : Server) → (kept_of (f s) ≡ kept_of s) × ((f s).generations ≡ s.generations)
 
+-- the times stay, where the request says no change
+abbrev pub SameTimes : Rights → (Server → Server) → Type 0
+SameTimes rights f = IsFalse (says_change_in rights.subject.operation) → (s : Server) → times_kept (f s) ≡ times_kept s
+
 -- ---- pieces
 
 -- Of a server as it is after what was asked, which was `known` at first: none holds more than it may, if that was so at the beginning. It counts
--- from when it did then.
+-- from when it did then; and so it has the times, where the request says no change.
 pub record Fits (rights : Rights) (P : Server → Type 0) (known past : AskedBefore) (s : Server) : Type 0 where
   pub since : Extends known past
   pub shares : WithinShares rights.subject.start → WithinShares s
   pub clock : clock_of s ≡ clock_of rights.subject.start
+  pub times : IsFalse (says_change_in rights.subject.operation) → times_kept s ≡ times_kept rights.subject.start
   pub holds : P s
 
 pub begins : (rights : Rights) (s : Server) → rights.subject.start ≡ s → (past : AskedBefore) → Fits rights (Still rights) [] past s
@@ -119,6 +107,7 @@ begins rights s start past = record {
   since = extends-nothing past;
   shares = λ within. subst WithinShares start within;
   clock = ap clock_of (sym start);
+  times = λ none. ap times_kept (sym start);
   holds = record { generations = ap (λ t. t.generations) (sym start) };
 }
 
@@ -128,18 +117,22 @@ LeftTo rights P known F past (Err e, s) = Fits rights P known past s
 
 -- Where P holds of what the server keeps, the work behaves, and P holds then; and F of its value, after what was asked.
 pub record DoesTo (rights : Rights) (P : Server → Type 0) (known : AskedBefore) {X : Type 0} (F : AskedBefore → X → Type 0) (w : Work X) : Type 0 where
-  pub goes : (past : AskedBefore) (s : Server) → Fits rights P known past s → KeepsTo (conduct rights) (LeftTo rights P known F) past (w s)
+  pub goes : (past : AskedBefore) (s : Server) → Fits rights P known past s → KeepsTo (doing rights) (LeftTo rights P known F) past (w s)
 
 -- nothing is known of the value
 abbrev pub Does : Rights → (Server → Type 0) → AskedBefore → {X : Type 0} → Work X → Type 0
 Does rights P known w = DoesTo rights P known (λ past x. Unit {0}) w
 
-abbrev pub Left : Rights → {X : Type 0} → AskedBefore → X × Server → Type 0
-Left rights past r = (WithinShares rights.subject.start → WithinShares r.1) × (clock_of r.1 ≡ clock_of rights.subject.start)
+-- So the last piece leaves it. The generations are as at the beginning, where nothing is made.
+pub record Left (rights : Rights) {X : Type 0} (past : AskedBefore) (r : X × Server) : Type 0 where
+  pub shares : WithinShares rights.subject.start → WithinShares r.1
+  pub clock : clock_of r.1 ≡ clock_of rights.subject.start
+  pub times : IsFalse (says_change_in rights.subject.operation) → times_kept r.1 ≡ times_kept rights.subject.start
+  pub nodes : makes_in rights.subject.operation ≡ false → r.1.generations ≡ rights.subject.start.generations
 
--- Where P holds, the work behaves; it is the last.
-pub record Lasts (rights : Rights) (P : Server → Type 0) (known : AskedBefore) {X : Type 0} (w : Work X) : Type 0 where
-  pub goes : (past : AskedBefore) (s : Server) → Fits rights P known past s → KeepsTo (conduct rights) (Left rights) past (w s)
+-- the work behaves; it is the last
+pub record Lasts (rights : Rights) (known : AskedBefore) {X : Type 0} (w : Work X) : Type 0 where
+  pub goes : (past : AskedBefore) (s : Server) → Fits rights (Still rights) known past s → KeepsTo (doing rights) (Left rights) past (w s)
 
 -- what is known of a value where the work didn't fail
 abbrev pub OkTo : {X : Type 0} → (AskedBefore → X → Type 0) → AskedBefore → Result X RequestError → Type 0
@@ -148,10 +141,10 @@ OkTo F past (Err e) = Unit {0}
 
 module _ {rights : Rights} {P : Server → Type 0} {known : AskedBefore} where
   fits-later : {now past : AskedBefore} {s : Server} → Extends known now → Fits rights P now past s → Fits rights P known past s
-  fits-later more fits = record { since = extends-both more fits.since; shares = fits.shares; clock = fits.clock; holds = fits.holds }
+  fits-later more fits = record { since = extends-both more fits.since; shares = fits.shares; clock = fits.clock; times = fits.times; holds = fits.holds }
 
   fits-now : {past : AskedBefore} {s : Server} → Fits rights P known past s → Fits rights P past past s
-  fits-now {past} fits = record { since = extends-itself past; shares = fits.shares; clock = fits.clock; holds = fits.holds }
+  fits-now {past} fits = record { since = extends-itself past; shares = fits.shares; clock = fits.clock; times = fits.times; holds = fits.holds }
 
   -- ---- without events
 
@@ -172,11 +165,17 @@ module _ {rights : Rights} {P : Server → Type 0} {known : AskedBefore} where
 
   -- where none holds more than it may
   pub does-keep_within : (f : Server → Server) → ((s : Server) → WithinShares s → WithinShares (f s)) → ((s : Server) → clock_of (f s) ≡ clock_of s)
-      → ((s : Server) → P s → P (f s)) → Does rights P known (keep f)
+      → SameTimes rights f → ((s : Server) → P s → P (f s)) → Does rights P known (keep f)
   unfolding keep
-  does-keep_within f within counts stays = record {
+  does-keep_within f within counts same stays = record {
     goes = λ past s fits. (
-      record { since = fits.since; shares = λ start. within s (fits.shares start); clock = counts s ∙ fits.clock; holds = stays s fits.holds },
+      record {
+        since = fits.since;
+        shares = λ start. within s (fits.shares start);
+        clock = counts s ∙ fits.clock;
+        times = λ none. same none s ∙ fits.times none;
+        holds = stays s fits.holds;
+      },
       tt,
     );
   }
@@ -207,7 +206,7 @@ module _ {rights : Rights} {P : Server → Type 0} {known : AskedBefore} where
   pub does-weaker : {X : Type 0} {F G : AskedBefore → X → Type 0} {w : Work X} → DoesTo rights P known F w → ((past : AskedBefore) (x : X) → F past x → G past x)
       → DoesTo rights P known G w
   does-weaker {X} {F} {G} {w} first says = record {
-    goes = λ past s fits. keeps-weaker (conduct rights) (LeftTo rights P known F) (LeftTo rights P known G) (w s) past (first.goes past s fits) weaker;
+    goes = λ past s fits. keeps-weaker (doing rights) (LeftTo rights P known F) (LeftTo rights P known G) (w s) past (first.goes past s fits) weaker;
   }
     where
       weaker : (n : AskedBefore) (r : Result X RequestError × Server) → LeftTo rights P known F n r → LeftTo rights P known G n r
@@ -221,31 +220,28 @@ module _ {rights : Rights} {P : Server → Type 0} {known : AskedBefore} where
       → DoesTo rights P known F w → ((x : X) (now : AskedBefore) → Extends known now → F now x → DoesTo rights P now G (f x)) → DoesTo rights P known G (w >>= f)
   then->>= {X} {Y} {F} {G} {w} {f} first rest = record {
     goes = λ past s fits.
-        keeps->>= (conduct rights) (LeftTo rights P known F) (LeftTo rights P known G) w f past s (first.goes past s fits) after (λ n e t left. left);
+        keeps->>= (doing rights) (LeftTo rights P known F) (LeftTo rights P known G) w f past s (first.goes past s fits) after (λ n e t left. left);
   }
     where
       back : (now : AskedBefore) → Extends known now → (n : AskedBefore) (r : Result Y RequestError × Server) → LeftTo rights P now G n r → LeftTo rights P known G n r
       back now more n (Ok y, t) left = (fits-later more left.0, left.1)
       back now more n (Err e, t) left = fits-later more left
 
-      after : (n : AskedBefore) (x : X) (t : Server) → LeftTo rights P known F n (Ok x, t) → KeepsTo (conduct rights) (LeftTo rights P known G) n (f x t)
+      after : (n : AskedBefore) (x : X) (t : Server) → LeftTo rights P known F n (Ok x, t) → KeepsTo (doing rights) (LeftTo rights P known G) n (f x t)
       after n x t left =
-          keeps-weaker (conduct rights) (LeftTo rights P n G) (LeftTo rights P known G) (f x t) n ((rest x n left.0.since left.1).goes n t (fits-now left.0)) (back n left.0.since)
+          keeps-weaker (doing rights) (LeftTo rights P n G) (LeftTo rights P known G) (f x t) n ((rest x n left.0.since left.1).goes n t (fits-now left.0)) (back n left.0.since)
 
   -- where what is known of the value doesn't speak of what was asked
   pub with->>= : {X Y : Type 0} {F : X → Type 0} {G : AskedBefore → Y → Type 0} {w : Work X} {f : X → Work Y}
       → DoesTo rights P known (λ past. F) w → ((x : X) → F x → DoesTo rights P known G (f x)) → DoesTo rights P known G (w >>= f)
   with->>= {X} {Y} {F} {G} {w} {f} first rest = record {
     goes = λ past s fits.
-        keeps->>= (conduct rights) (LeftTo rights P known (λ past. F)) (LeftTo rights P known G) w f past s (first.goes past s fits) (λ n x t left. (rest x left.1).goes n t left.0) (λ n e t left. left);
+        keeps->>= (doing rights) (LeftTo rights P known (λ past. F)) (LeftTo rights P known G) w f past s (first.goes past s fits) (λ n x t left. (rest x left.1).goes n t left.0) (λ n e t left. left);
   }
 
   pub does->>= : {X Y : Type 0} {F : AskedBefore → X → Type 0} {G : AskedBefore → Y → Type 0} {w : Work X} {f : X → Work Y}
       → DoesTo rights P known F w → ((x : X) → DoesTo rights P known G (f x)) → DoesTo rights P known G (w >>= f)
-  does->>= {X} {Y} {F} {G} {w} {f} first rest = record {
-    goes = λ past s fits.
-        keeps->>= (conduct rights) (LeftTo rights P known F) (LeftTo rights P known G) w f past s (first.goes past s fits) (λ n x t left. (rest x).goes n t left.0) (λ n e t left. left);
-  }
+  does->>= first rest = with->>= (forget first) (λ x any. rest x)
 
   pub does-done : {X : Type 0} {F : AskedBefore → X → Type 0} {w : Work X} → DoesTo rights P known F w → Does rights P known (done w)
   does-done first = does->>= first (λ x. does-give tt)
@@ -254,66 +250,74 @@ module _ {rights : Rights} {P : Server → Type 0} {known : AskedBefore} where
   unfolding attempt
   does-attempt {X} {F} {w} first = record {
     goes = λ past s fits.
-        keeps-followed_by (conduct rights) (LeftTo rights P known F) (LeftTo rights P known (OkTo F)) (w s) (λ r. Finish (Ok r.0, r.1)) past (first.goes past s fits) told;
+        keeps-followed_by (doing rights) (LeftTo rights P known F) (LeftTo rights P known (OkTo F)) (w s) (λ r. Finish (Ok r.0, r.1)) past (first.goes past s fits) told;
   }
     where
       told : (n : AskedBefore) (r : Result X RequestError × Server) → LeftTo rights P known F n r → LeftTo rights P known (OkTo F) n (Ok r.0, r.1)
       told n (Ok x, t) left = left
       told n (Err e, t) left = (left, tt)
 
+module _ {rights : Rights} {known : AskedBefore} where
+  -- where nodes lead where they did
+  pub does-keep : (f : Server → Server) → SameAll f → SameTimes rights f → Does rights (Still rights) known (keep f)
+  does-keep f same times =
+      does-keep_within f (λ s within. same_within s (f s) (ap (λ k. k.0) (same s).0) within) (λ s. ap (λ k. k.1) (same s).0) times
+      (λ s still. record { generations = (same s).1 ∙ still.generations })
+
   -- ---- the last pieces
 
-  pub does-lasts : {X : Type 0} {F : AskedBefore → X → Type 0} {w : Work X} → DoesTo rights P known F w → Lasts rights P known w
+  pub left : {X : Type 0} {past : AskedBefore} (x : X) (s : Server) → Fits rights (Still rights) known past s → Left rights past (x, s)
+  left x s fits = record { shares = fits.shares; clock = fits.clock; times = fits.times; nodes = λ none. fits.holds.generations }
+
+  pub does-lasts : {X : Type 0} {F : AskedBefore → X → Type 0} {w : Work X} → DoesTo rights (Still rights) known F w → Lasts rights known w
   does-lasts {X} {F} {w} first = record {
-    goes = λ past s fits. keeps-weaker (conduct rights) (LeftTo rights P known F) (Left rights) (w s) past (first.goes past s fits) weaker;
+    goes = λ past s fits. keeps-weaker (doing rights) (LeftTo rights (Still rights) known F) (Left rights) (w s) past (first.goes past s fits) weaker;
   }
     where
-      weaker : (n : AskedBefore) (r : Result X RequestError × Server) → LeftTo rights P known F n r → Left rights n r
-      weaker n (Ok x, t) left = (left.0.shares, left.0.clock)
-      weaker n (Err e, t) left = (left.shares, left.clock)
+      weaker : (n : AskedBefore) (r : Result X RequestError × Server) → LeftTo rights (Still rights) known F n r → Left rights n r
+      weaker n (Ok x, t) fits = left _ t fits.0
+      weaker n (Err e, t) fits = left _ t fits
 
   pub lasts-then : {X Y : Type 0} {F : AskedBefore → X → Type 0} {w : Work X} {f : X → Work Y}
-      → DoesTo rights P known F w → ((x : X) (now : AskedBefore) → Extends known now → F now x → Lasts rights P now (f x)) → Lasts rights P known (w >>= f)
+      → DoesTo rights (Still rights) known F w → ((x : X) (now : AskedBefore) → Extends known now → F now x → Lasts rights now (f x)) → Lasts rights known (w >>= f)
   lasts-then {X} {Y} {F} {w} {f} first rest = record {
     goes = λ past s fits.
-        keeps->>= (conduct rights) (LeftTo rights P known F) (Left rights) w f past s (first.goes past s fits)
-        (λ n x t left. (rest x n left.0.since left.1).goes n t (fits-now left.0)) (λ n e t left. (left.shares, left.clock));
+        keeps->>= (doing rights) (LeftTo rights (Still rights) known F) (Left rights) w f past s (first.goes past s fits)
+        (λ n x t fits. (rest x n fits.0.since fits.1).goes n t (fits-now fits.0)) (λ n e t fits. left _ t fits);
   }
 
   pub lasts-with : {X Y : Type 0} {F : X → Type 0} {w : Work X} {f : X → Work Y}
-      → DoesTo rights P known (λ past. F) w → ((x : X) → F x → Lasts rights P known (f x)) → Lasts rights P known (w >>= f)
+      → DoesTo rights (Still rights) known (λ past. F) w → ((x : X) → F x → Lasts rights known (f x)) → Lasts rights known (w >>= f)
   lasts-with {X} {Y} {F} {w} {f} first rest = record {
     goes = λ past s fits.
-        keeps->>= (conduct rights) (LeftTo rights P known (λ past. F)) (Left rights) w f past s (first.goes past s fits)
-        (λ n x t left. (rest x left.1).goes n t left.0) (λ n e t left. (left.shares, left.clock));
+        keeps->>= (doing rights) (LeftTo rights (Still rights) known (λ past. F)) (Left rights) w f past s (first.goes past s fits)
+        (λ n x t fits. (rest x fits.1).goes n t fits.0) (λ n e t fits. left _ t fits);
   }
 
   pub lasts->>= : {X Y : Type 0} {F : AskedBefore → X → Type 0} {w : Work X} {f : X → Work Y}
-      → DoesTo rights P known F w → ((x : X) → Lasts rights P known (f x)) → Lasts rights P known (w >>= f)
-  lasts->>= {X} {Y} {F} {w} {f} first rest = record {
-    goes = λ past s fits.
-        keeps->>= (conduct rights) (LeftTo rights P known F) (Left rights) w f past s (first.goes past s fits)
-        (λ n x t left. (rest x).goes n t left.0) (λ n e t left. (left.shares, left.clock));
-  }
+      → DoesTo rights (Still rights) known F w → ((x : X) → Lasts rights known (f x)) → Lasts rights known (w >>= f)
+  lasts->>= first rest = lasts-with (forget first) (λ x any. rest x)
 
-  -- the server keeps something else from now on
-  pub keep-lasts : {X : Type 0} {Q : Server → Type 0} (f : Server → Server) {w : Work X} → SameHeld f → ((s : Server) → P s → Q (f s)) → Lasts rights Q known w
-      → Lasts rights P known (keep f >>= (λ _. w))
+  -- something was made, and the server keeps that from now on
+  pub keep-lasts : {X : Type 0} {name : List ℕ} {F : AskedBefore → X → Type 0} (f : Server → Server) {w : Work X} → SameHeld f → Told rights.subject.operation (adds_name name)
+      → DoesTo rights Any known F w → Lasts rights known (keep f >>= (λ _. w))
   unfolding keep ◌>>=◌
-  keep-lasts f same after rest = record {
-    goes = λ past s fits.
-        rest.goes past (f s)
-        (record {
-          since = fits.since;
-          shares = λ start. same_within s (f s) (ap (λ k. k.0) (same s)) (fits.shares start);
-          clock = ap (λ k. k.1) (same s) ∙ fits.clock;
-          holds = after s fits.holds;
-        });
+  keep-lasts {X} {name} {F} f {w} same adds rest = record {
+    goes = λ past s fits. keeps-weaker (doing rights) (LeftTo rights Any known F) (Left rights) (w (f s)) past (rest.goes past (f s) (kept_so past s fits)) weaker;
   }
+    where
+      kept_so : (past : AskedBefore) (s : Server) → Fits rights (Still rights) known past s → Fits rights Any known past (f s)
+      kept_so past s fits = record {
+        since = fits.since;
+        shares = λ start. same_within s (f s) (ap (λ k. k.0) (same s)) (fits.shares start);
+        clock = ap (λ k. k.1) (same s) ∙ fits.clock;
+        times = λ none. changing adds none;
+        holds = tt;
+      }
 
-module _ {rights : Rights} {known : AskedBefore} where
-  -- where nodes lead where they did
-  pub does-keep : (f : Server → Server) → SameAll f → Does rights (Still rights) known (keep f)
-  does-keep f same =
-      does-keep_within f (λ s within. same_within s (f s) (ap (λ k. k.0) (same s).0) within) (λ s. ap (λ k. k.1) (same s).0)
-      (λ s still. record { generations = (same s).1 ∙ still.generations })
+      made : {past : AskedBefore} (r : Result X RequestError) (t : Server) → Fits rights Any known past t → Left rights past (r, t)
+      made r t fits = record { shares = fits.shares; clock = fits.clock; times = fits.times; nodes = λ none. making-it adds none }
+
+      weaker : (n : AskedBefore) (r : Result X RequestError × Server) → LeftTo rights Any known F n r → Left rights n r
+      weaker n (Ok x, t) fits = made _ t fits.0
+      weaker n (Err e, t) fits = made _ t fits

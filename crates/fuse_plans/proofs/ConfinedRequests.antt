@@ -40,9 +40,8 @@ use Rattle.fuse_plans.specs.Conduct.{Rights, only_looks, MayCall, as_who_asks, a
 use Rattle.fuse_plans.specs.Laws.{rights_of, Ends}
 use Rattle.fuse_plans.specs.Serving.{request_plan}
 use Rattle.fuse_plans.specs.Confinement.{HasThen, PerformedAlike, RequestsConfined}
-use Rattle.fuse_plans.proofs.RequestConducts.{requests_behave}
-use Rattle.fuse_plans.proofs.AlterRequests.{requests_change_what_they_say}
-use Rattle.fuse_plans.proofs.AlterTimes.{others_change_nothing}
+use Rattle.fuse_plans.proofs.RequestConducts.{requests_behave, requests_change_what_they_say}
+use Rattle.fuse_plans.proofs.Said.{others_change_nothing}
 use Rattle.fuse_plans.proofs.SameCredentials.{same_cred}
 
 -- ---- who asks

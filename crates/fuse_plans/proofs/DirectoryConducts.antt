@@ -27,8 +27,8 @@ use Rattle.fuse_plans.specs.DirectoryPlans.{take_directory_if, take_directory, o
 use Rattle.fuse_plans.specs.ListingPlans.{find_in_place, find_listed, look_up_names, read_directory_plus}
 use Rattle.fuse_plans.specs.Serving.{begin, count_space, end}
 use Rattle.fuse_plans.specs.Acts.{AskedBefore, lists}
-use Rattle.fuse_plans.specs.Conduct.{Rights, as_server, conduct}
-use Rattle.fuse_plans.proofs.Conducts.{Still, Fits, LeftTo, Does, OkTo, does-give, does-fail, does-kept, does-keep_within, does-keep, does-of_result, gives-of_result, does-needed, does-if, forget, then->>=, with->>=, does->>=, does-attempt}
+use Rattle.fuse_plans.specs.Conduct.{Rights, as_server}
+use Rattle.fuse_plans.proofs.Conducts.{doing, Still, Fits, LeftTo, Does, OkTo, does-give, does-fail, does-kept, does-keep_within, does-keep, does-of_result, gives-of_result, does-needed, does-if, forget, then->>=, with->>=, does->>=, does-attempt}
 use Rattle.fuse_plans.proofs.Calls.{WasGranted, IsOpened, may-close, may-list, About, looks-at, acts-on, does-ask, does-obtain, does-on, does-replied_opened, IsOwn, IsFor, own-object, gives-own, gives-caller}
 use Rattle.fuse_plans.proofs.NameConducts.{does-plain_name, does-find_inside}
 
@@ -41,13 +41,14 @@ module _ {rights : Rights} {known : AskedBefore} where
   does-take_directory uid node = record { goes = λ past s fits. takes past s fits (may_open_directory s uid) refl }
     where
       takes : (past : AskedBefore) (s : Server) → Fits rights (Still rights) known past s → (b : Bool) → may_open_directory s uid ≡ b
-          → KeepsTo (conduct rights) (LeftTo rights (Still rights) known (λ past x. Unit {0})) past (take_directory_if uid node b s)
+          → KeepsTo (doing rights) (LeftTo rights (Still rights) known (λ past x. Unit {0})) past (take_directory_if uid node b s)
       takes past s fits false is = fits
       takes past s fits true is = (
         record {
           since = fits.since;
           shares = λ start. opened_within s uid node is (fits.shares start);
           clock = fits.clock;
+          times = fits.times;
           holds = record { generations = fits.holds.generations };
         },
         tt,
@@ -62,13 +63,13 @@ module _ {rights : Rights} {known : AskedBefore} where
   does-open_directory r of =
       with->>= (gives-own of) (λ n own.
       with->>= (gives-caller _ of.cred) (λ cred who.
-      does->>= (does-attempt (does-on cred n _ (acts-on _ who refl (own-object own)))) (λ read.
+      does->>= (does-attempt (does-on cred n _ (acts-on _ who refl tt (own-object own)))) (λ read.
       does->>= (does-or_removed read) (λ may. does-take_directory cred.uid r.node))))
 
   pub does-close_directory : (handle : ℕ) → Does rights (Still rights) known (close_directory handle)
   unfolding close_directory
   does-close_directory handle =
-      does->>= (does-keep_within _ (λ s within. released_within s handle within) (λ s. refl) (λ s still. record { generations = still.generations })) (λ done. does-give _)
+      does->>= (does-keep_within _ (λ s within. released_within s handle within) (λ s. refl) (λ none s. refl) (λ s still. record { generations = still.generations })) (λ done. does-give _)
 
 -- ---- listings
 
@@ -89,7 +90,7 @@ module _ {rights : Rights} {P : Server → Type 0} {known : AskedBefore} where
   does-list_all : (n : ℕ) → rights.handle ≡ None → About rights known n → Does rights P known (list_all n)
   unfolding list_all
   does-list_all n alone about =
-      then->>= (does-attempt (does-on server_credential n _ (looks-at (OpenCall [] listing 0) refl refl about))) (λ opened now more asked. does-list_opened _ opened alone asked)
+      then->>= (does-attempt (does-on server_credential n _ (looks-at (OpenCall [] listing 0) refl refl tt about))) (λ opened now more asked. does-list_opened _ opened alone asked)
 
 module _ {rights : Rights} {known : AskedBefore} (r : Asked) (of : IsFor rights r) (alone : rights.handle ≡ None) where
   does-list_now : (handle opened : ℕ) → Does rights (Still rights) known (list_now r.node handle opened)
@@ -97,7 +98,7 @@ module _ {rights : Rights} {known : AskedBefore} (r : Asked) (of : IsFor rights 
       with->>= (gives-own of) (λ n own.
       does->>= (does-if _ _ _ (does-give tt) (does-fail _)) (λ same.
       does->>= (does-list_all n alone (own-object own)) (λ names.
-      does->>= (does-keep_within _ (λ s within. listed_within s handle (in_order names) within) (λ s. refl) (λ s still. record { generations = still.generations })) (λ done. does-give _))))
+      does->>= (does-keep_within _ (λ s within. listed_within s handle (in_order names) within) (λ s. refl) (λ none s. refl) (λ s still. record { generations = still.generations })) (λ done. does-give _))))
 
   does-listed : (handle : ℕ) (d : OpenDirectory) (anew : Bool) (made : Option (List (List ℕ × ℕ))) → Does rights (Still rights) known (listed r.node handle d anew made)
   does-listed handle d false (Some names) = does-give names
@@ -123,7 +124,7 @@ module _ {rights : Rights} {P : Server → Type 0} {known : AskedBefore} (extent
   does-find_in_place nobody place name is =
       does->>= (does-plain_name name) (λ plain.
       with->>= (gives-of_result place is) (λ d own.
-      does-find_inside nobody server_credential d name (as_server refl refl, lists d name extent (record { first = refl; second = refl }) own asked refl)))
+      does-find_inside nobody server_credential d name ((as_server refl refl, lists d name extent (record { first = refl; second = refl }) own asked refl), tt)))
 
   does-find_listed : (nobody : Bool) (place : Result ℕ RequestError) (name : List ℕ) → OkTo (λ past. IsOwn rights) known place
       → Does rights P known (find_listed nobody place name)
@@ -155,16 +156,16 @@ module _ {rights : Rights} {known : AskedBefore} where
   does-begin offer =
       does-if _ _ _ (does-fail _)
       (does-if _ _ _ (does-give _)
-      (does->>= (does-keep _ (λ s. (refl, refl))) (λ done. does-kept _)))
+      (does->>= (does-keep _ (λ s. (refl, refl)) (λ none s. refl)) (λ done. does-kept _)))
 
   pub does-sync_all : Does rights (Still rights) known sync_all
   unfolding sync_all
-  does-sync_all = does->>= (does-obtain Sync tt) (λ done. does-give _)
+  does-sync_all = does->>= (does-obtain Sync (tt, tt)) (λ done. does-give _)
 
   pub does-count_space : Does rights (Still rights) known count_space
   unfolding count_space
-  does-count_space = does->>= (does-obtain Statfs tt) (λ reply. does->>= (does-needed _ _) (λ free. does-kept _))
+  does-count_space = does->>= (does-obtain Statfs (tt, tt)) (λ reply. does->>= (does-needed _ _) (λ free. does-kept _))
 
   pub does-end : Does rights (Still rights) known end
   unfolding end
-  does-end = does->>= (does-keep _ (λ s. (refl, refl))) (λ done. does-sync_all)
+  does-end = does->>= (does-keep _ (λ s. (refl, refl)) (λ none s. refl)) (λ done. does-sync_all)

@@ -1,6 +1,5 @@
 -- What is due is kept first.
 --     due_first, none_before, recent_unless_due        the laws
---     ends_as        a plan that asks nothing
 --     kept_within        shares are kept by it
 use Rattle.std.specs.Prelude.{◌≡◌, ℕ, ◌+◌, ◌*◌, ◌<◌, ◌≤◌, nat_lt, nat_le, Bool, true, false, ◌&&◌, ◌||◌, List, [], ◌∷◌, Option, None, Some, Result, Ok}
 use Rattle.std.proofs.Common.{refl, sym, ap, subst, ◌∙◌, inl, inr, arith}
@@ -15,11 +14,12 @@ use Rattle.fuse_state.specs.Stamps.{second}
 use Rattle.fuse_state.proofs.Holders.{same_within}
 use Rattle.fuse_plans.specs.declared.request_error.RequestError.{RequestError}
 use Rattle.fuse_plans.specs.declared.reply.Response.{Response}
-use Rattle.fuse_plans.specs.Plans.{Plan, Finish, Ask, followed_by, IsRunOf}
+use Rattle.fuse_plans.specs.Plans.{Plan, Ask, followed_by, IsRunOf}
 use Rattle.fuse_plans.specs.Requests.{Request}
 use Rattle.fuse_plans.specs.Works.{give, kept, keep, ask, ◌>>=◌}
 use Rattle.fuse_plans.specs.KeepingDue.{DueIsKeptFirst, NothingIsKeptBefore, UndueIsRecent}
 use Rattle.fuse_plans.specs.Serving.{is_due, keep_due_if, keep_due, keep_due_in, request_plan, served_plan}
+use Rattle.fuse_plans.proofs.PlanLaws.{run-finished}
 
 -- ---- the laws
 
@@ -67,23 +67,17 @@ recent_unless_due s now some small undue =
 
 -- ---- shares
 
--- a plan that asks nothing
-pub ends_as : {X : Type 0} (x y : X) (es : List Event) (replies : List Reply) → IsRunOf (Finish x) es replies y → y ≡ x
-ends_as x y [] [] ends = ends
-ends_as x y [] (reply ∷ replies) ends = elim ends [ ]
-ends_as x y (e ∷ es) replies ends = elim ends [ ]
-
 kept_if : (due : Bool) (now : Time) (s : Server) (es : List Event) (replies : List Reply) (u : Result (Unit {0}) RequestError × Server)
     → IsRunOf (keep_due_if due now s) es replies u → WithinShares s → WithinShares u.1
 unfolding keep give ask ◌>>=◌
-kept_if false now s es replies u runs within = subst WithinShares (sym (ap (λ q. q.1) (ends_as (Ok tt, s) u es replies runs))) within
+kept_if false now s es replies u runs within = subst WithinShares (sym (ap (λ q. q.1) (run-finished (Ok tt, s) u es replies runs))) within
 kept_if true now s [] replies u runs within = elim runs [ ]
 kept_if true now s (e ∷ es) [] u runs within = elim runs [ ]
 kept_if true now s (e ∷ es) (reply ∷ replies) u runs within =
-    subst WithinShares (sym (ap (λ q. q.1) (ends_as (Ok tt, with_kept_at now s) u es replies runs.1))) (same_within s (with_kept_at now s) refl within)
+    subst WithinShares (sym (ap (λ q. q.1) (run-finished (Ok tt, with_kept_at now s) u es replies runs.1))) (same_within s (with_kept_at now s) refl within)
 
 pub kept_within : (o : Option Operation) (now : Time) (s : Server) (es : List Event) (replies : List Reply) (u : Result (Unit {0}) RequestError × Server)
     → IsRunOf (keep_due_in o now s) es replies u → WithinShares s → WithinShares u.1
 unfolding keep_due kept give ◌>>=◌
-kept_within None now s es replies u runs within = subst WithinShares (sym (ap (λ q. q.1) (ends_as (Ok tt, s) u es replies runs))) within
+kept_within None now s es replies u runs within = subst WithinShares (sym (ap (λ q. q.1) (run-finished (Ok tt, s) u es replies runs))) within
 kept_within (Some operation) now s es replies u runs within = kept_if (is_due s now) now s es replies u runs within

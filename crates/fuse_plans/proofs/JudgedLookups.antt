@@ -25,7 +25,7 @@ use Rattle.fuse_plans.specs.NamePlans.{find_name}
 use Rattle.fuse_plans.specs.Serving.{Replying, answered, response_of, request_plan}
 use Rattle.fuse_plans.specs.Laws.{MayBeRefused, is_masked as masked, server_refused, JudgedLookupsAreGranted}
 use Rattle.fuse_plans.proofs.EachRun.{EachRun, each-run, each-weaker, each->>=, each-any, each-both, each-itself, each-ends, asked-before, asked-after, Ends, looked, listed, stat, get_list}
-use Rattle.fuse_plans.proofs.Searches.{numbered, plan_for, search_then, searches, Explained, explained}
+use Rattle.fuse_plans.proofs.Searches.{refused-before, numbered, plan_for, search_then, searches, Explained, explained}
 
 -- ---- directories that are masked
 
@@ -87,13 +87,14 @@ judged-so node s =
 may_be_more : {es : List Event} {replies : List Reply} (fs : List Event) (rest : List Reply) → MayBeRefused es replies → MayBeRefused (es ++ fs) (replies ++ rest)
 may_be_more fs rest (masked n status acl after acl_after shown may list hid) =
     masked n status acl (after ++ fs) (acl_after ++ fs) (asked-after fs rest shown) may (asked-after fs rest list) hid
-may_be_more fs rest (server_refused e refusal after by asked for) = server_refused e refusal (after ++ fs) by (asked-after fs rest asked) for
+may_be_more fs rest (server_refused was) =
+    server_refused (record { event = was.event; is_by = was.is_by; refusal = was.refusal; after = was.after ++ fs; asked = asked-after fs rest was.asked; for_it = was.for_it })
 
 may_be_later : {X : Type 0} {fs : List Event} {rest : List Reply} (p : Plan X) (es : List Event) (replies : List Reply) (x : X) → IsRunOf p es replies x
     → MayBeRefused fs rest → MayBeRefused (es ++ fs) (replies ++ rest)
 may_be_later p es replies x runs (masked n status acl after acl_after shown may list hid) =
     masked n status acl after acl_after (asked-before p es replies x runs shown) may (asked-before p es replies x runs list) hid
-may_be_later p es replies x runs (server_refused e refusal after by asked for) = server_refused e refusal after by (asked-before p es replies x runs asked) for
+may_be_later p es replies x runs (server_refused was) = server_refused (refused-before p es replies x runs was)
 
 abbrev RefusedIn : List Event → List Reply → Response × Server → Type 0
 RefusedIn es replies (Silence, t) = Unit {0}
@@ -110,7 +111,7 @@ module _ (r : Request) (name : List ℕ) (s : Server) where
     where
       so : (es : List Event) (replies : List Reply) (q : Ends ReplyBody) → Explained es replies q → RefusedIn es replies (response_of q.0, q.1)
       so es replies (Ok body, t) why = tt
-      so es replies (Err e, t) why = λ denied. (let was = why denied in server_refused was.event was.refusal was.after was.is_by was.asked was.for_it)
+      so es replies (Err e, t) why = λ denied. server_refused (why denied)
 
   refused-more : {es : List Event} {replies : List Reply} → MayBeRefused es replies → (fs : List Event) (rest : List Reply) (q : Response × Server) → RefusedIn (es ++ fs) (replies ++ rest) q
   refused-more may fs rest (Silence, t) = tt

@@ -3,7 +3,7 @@
 --     told-kept        the same where the machine is told the time first
 --     names_are_kept_where_judged, only_missing_names_are_absent
 use Rattle.std.specs.Prelude.{◌≡◌, ℕ, ◌<◌, ◌==◌, Bool, true, false, not, List, [], ◌∷◌, ◌++◌, bit_and, Option, None, Some, Ok, Err, IsTrue, if◌then◌else◌}
-use Rattle.std.proofs.Common.{refl, sym, subst, arith}
+use Rattle.std.proofs.Common.{refl, sym, subst, ◌∙◌, arith}
 use Rattle.fs_layout.proofs.FirstEntries.{left as and-first}
 use Rattle.fs_cred.specs.declared.errno.Errno.TheVariants.{EINVAL, EPERM}
 use Rattle.fs_model.specs.declared.call.Call.TheVariants.{Open as OpenCall}
@@ -19,7 +19,7 @@ use Rattle.fuse_plans.specs.declared.reply.ReplyBody.TheVariants.{Absent}
 use Rattle.fuse_plans.specs.declared.reply.Response.{Response}
 use Rattle.fuse_plans.specs.declared.reply.Response.TheVariants.{Silence, Says, Fails}
 use Rattle.fuse_plans.specs.RequestErrors.{failed}
-use Rattle.fuse_plans.specs.Plans.{Plan, IsRunOf}
+use Rattle.fuse_plans.specs.Plans.{IsRunOf}
 use Rattle.fuse_plans.specs.Works.{Work, give, fail, kept, goes_on, ◌>>=◌, ◌>>◌, attempt, ask}
 use Rattle.fuse_plans.specs.Flags.{mode_in, making}
 use Rattle.fuse_plans.specs.Masks.{list_hides}
@@ -31,9 +31,9 @@ use Rattle.fuse_plans.specs.Nobody.{is_judged}
 use Rattle.fuse_plans.specs.Serving.{Replying, answered, response_of, request_plan}
 use Rattle.fuse_plans.specs.Laws.{names_an_object}
 use Rattle.fuse_plans.specs.KeepingLaws.{name_valid_in, MayKeepName, is_looked_up, is_new, NamesAreKeptWhereJudged, IsMissing, OnlyMissingNamesAreAbsent}
-use Rattle.fuse_plans.proofs.EachRun.{EachRun, each-run, each-weaker, each-any, each-all, each-itself, each-ends, each->>=, ended, asked-before, Ends}
-use Rattle.fuse_plans.proofs.Searches.{needs, numbered, in-directory, plain, plan_for, search_then, searches, is_absent, Explained, explained}
-use Rattle.fuse_plans.proofs.ToldNames.{EndsSo, so-after, IsFor, TellsFor, for-tell_made, for-create_by, plain-plan, IsThere, there-plan, SaysSo, all-planned, all-unjudged}
+use Rattle.fuse_plans.proofs.EachRun.{EachRun, each-run, each-weaker, each-any, each-all, each-itself, each-ends, each->>=, ended, Ends}
+use Rattle.fuse_plans.proofs.Searches.{refused-before, needs, numbered, in-directory, plain, plan_for, search_then, searches, is_absent, Explained, explained}
+use Rattle.fuse_plans.proofs.ToldNames.{EndsSo, so-after, IsFor, Leads, TellsFor, for-tell_made, for-create_by, plain-plan, IsThere, there-plan, SaysSo, all-planned, all-unjudged}
 
 positive : (n : ℕ) → 0 < n → n ≡ 0 → ⊥
 positive n lt is = omega (arith, lt, is)
@@ -96,14 +96,14 @@ module _ (r : Request) (s : Server) where
       (each-weaker (ValidSeen d) (λ es replies q. EachRun (λ fs others z. SeesIn (es ++ fs) (replies ++ others) z) (goes_on rest q)) (new_valid d s) (valid-seen d) go)
     where
       says : (es : List Event) (replies : List Reply) (valid : ℕ) → (0 < valid → Followed d es replies) → (fs : List Event) (others : List Reply) (z : Ends ReplyBody)
-          → EndsSo (IsFor valid) z → SeesIn (es ++ fs) (replies ++ others) z
+          → EndsSo (λ body t. IsFor valid body t × Leads body t) z → SeesIn (es ++ fs) (replies ++ others) z
       says es replies valid seen fs others (Ok body, t) is =
-          λ lt. (let found = seen (subst (λ n. 0 < n) is.0 lt) in sees d found.afterwards es fs replies others found.judges of_node found.runs)
+          λ lt. (let found = seen (subst (λ n. 0 < n) is.0.0 lt) in sees d found.afterwards es fs replies others found.judges of_node found.runs)
       says es replies valid seen fs others (Err e, t) any = tt
 
       go : (es : List Event) (replies : List Reply) (q : Ends ℕ) → ValidSeen d es replies q → EachRun (λ fs others z. SeesIn (es ++ fs) (replies ++ others) z) (goes_on rest q)
       go es replies (Ok valid, u) seen =
-          each-all (EndsSo (IsFor valid)) (λ fs others z. SeesIn (es ++ fs) (replies ++ others) z) (rest valid u) ((tells valid).at u) (says es replies valid seen)
+          each-all (EndsSo (λ body t. IsFor valid body t × Leads body t)) (λ fs others z. SeesIn (es ++ fs) (replies ++ others) z) (rest valid u) ((tells valid).at u) (says es replies valid seen)
       go es replies (Err e, u) seen = tt
 
   -- ---- what may be kept
@@ -253,30 +253,19 @@ names_are_kept_where_judged r s t body es replies lt runs =
 
 -- ---- nothing has the name
 
-missing-later : {X : Type 0} {fs : List Event} {rest : List Reply} (p : Plan X) (es : List Event) (replies : List Reply) (x : X) → IsRunOf p es replies x
-    → IsMissing fs rest → IsMissing (es ++ fs) (replies ++ rest)
-missing-later p es replies x runs is = record {
-  event = is.event;
-  is_by = is.is_by;
-  refusal = is.refusal;
-  after = is.after;
-  asked = asked-before p es replies x runs is.asked;
-  for_absence = is.for_absence;
-}
-
 abbrev MissingIn : List Event → List Reply → Response × Server → Type 0
 MissingIn es replies (Silence, t) = Unit {0}
 MissingIn es replies (Says body, t) = is_absent body ≡ true → IsMissing es replies
 MissingIn es replies (Fails e, t) = Unit {0}
 
-there-missing : (es : List Event) (replies : List Reply) (q : Response × Server) → SaysSo IsThere q → MissingIn es replies q
+there-missing : (es : List Event) (replies : List Reply) (q : Response × Server) → SaysSo (λ body t. IsThere body t × Leads body t) q → MissingIn es replies q
 there-missing es replies (Silence, t) any = tt
-there-missing es replies (Says body, t) is = λ absent. absurd (cc)
+there-missing es replies (Says body, t) is = λ absent. absurd (let no : true ≡ false = sym absent ∙ is.0 in cc)
 there-missing es replies (Fails e, t) any = tt
 
 for-missing : (es : List Event) (replies : List Reply) (q : Response × Server) → SaysSo (IsFor 0) q → MissingIn es replies q
 for-missing es replies (Silence, t) any = tt
-for-missing es replies (Says body, t) is = there-missing es replies (Says body, t) is.1
+for-missing es replies (Says body, t) is = λ absent. absurd (let no : true ≡ false = sym absent ∙ is.1 in cc)
 for-missing es replies (Fails e, t) any = tt
 
 module _ (r : Request) (s : Server) where
@@ -287,8 +276,7 @@ module _ (r : Request) (s : Server) where
       (each-weaker Explained (λ es replies q. MissingIn es replies (response_of q.0, q.1)) (find_name (asked_of r true) name s) (explained r name s) so)
     where
       so : (es : List Event) (replies : List Reply) (q : Ends ReplyBody) → Explained es replies q → MissingIn es replies (response_of q.0, q.1)
-      so es replies (Ok body, t) why = λ is. (let was = why is in
-          record { event = was.event; is_by = was.is_by; refusal = was.refusal; after = was.after; asked = was.asked; for_absence = was.for_it })
+      so es replies (Ok body, t) why = why
       so es replies (Err e, t) why = tt
 
   searched-missing : (name : List ℕ) → EachRun MissingIn (plan_for r (Some (Lookup name)) s)
@@ -300,7 +288,7 @@ module _ (r : Request) (s : Server) where
       later_on : (es : List Event) (replies : List Reply) → IsRunOf (is_judged r.node s.settings.posix_acl s) es replies true
           → (fs : List Event) (rest : List Reply) (q : Response × Server) → MissingIn fs rest q → MissingIn (es ++ fs) (replies ++ rest) q
       later_on es replies runs fs rest (Silence, t) missing = tt
-      later_on es replies runs fs rest (Says body, t) missing = λ is. missing-later (is_judged r.node s.settings.posix_acl s) es replies true runs (missing is)
+      later_on es replies runs fs rest (Says body, t) missing = λ is. refused-before (is_judged r.node s.settings.posix_acl s) es replies true runs (missing is)
       later_on es replies runs fs rest (Fails e, t) missing = tt
 
       go : (es : List Event) (replies : List Reply) (nobody : Bool) → IsRunOf (is_judged r.node s.settings.posix_acl s) es replies nobody
@@ -317,8 +305,8 @@ module _ (r : Request) (s : Server) where
       (all-planned (IsFor 0) r operation s (λ nobody. plain-plan (asked_of r nobody) r.value operation is)) for-missing
   operation-missing (Lookup name) true is = searched-missing name
   operation-missing operation true is =
-      each-all (SaysSo IsThere) MissingIn (plan_for r (Some operation) s)
-      (all-planned IsThere r operation s (λ nobody. there-plan (asked_of r nobody) r.value operation is (λ name same. cc))) there-missing
+      each-all (SaysSo (λ body t. IsThere body t × Leads body t)) MissingIn (plan_for r (Some operation) s)
+      (all-planned (λ body t. IsThere body t × Leads body t) r operation s (λ nobody. there-plan (asked_of r nobody) r.value operation is (λ name same. cc))) there-missing
 
   request-missing : (o : Option Operation) → EachRun MissingIn (plan_for r o s)
   unfolding fail

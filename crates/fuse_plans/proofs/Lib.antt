@@ -2,6 +2,8 @@ pub mod PlanLaws
 pub mod AllEnds
 pub mod EachRun
 pub mod ListingLaws
+pub mod Said
+pub mod Looks
 pub mod Conducts
 pub mod Calls
 pub mod NameConducts
@@ -13,12 +15,6 @@ pub mod RequestConducts
 pub mod DueFirst
 pub mod KeptInTime
 pub mod ShareRuns
-pub mod AlterPieces
-pub mod AlterMasks
-pub mod AlterNames
-pub mod AlterFiles
-pub mod AlterRequests
-pub mod AlterTimes
 pub mod AlterSteps
 pub mod AlterFailures
 pub mod RowsOfAlterations
@@ -28,8 +24,6 @@ pub mod Searches
 pub mod JudgedLookups
 pub mod ToldNames
 pub mod KeptNames
-pub mod QuietWorks
-pub mod QuietRequests
 pub mod WhoAsks
 pub mod ToldNodes
 pub mod Recordings

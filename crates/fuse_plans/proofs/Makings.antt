@@ -20,12 +20,13 @@ use Rattle.fuse_plans.specs.declared.request.Asked.{Asked}
 use Rattle.fuse_plans.specs.declared.request_error.RequestError.{RequestError}
 use Rattle.fuse_plans.specs.Requests.{Request}
 use Rattle.fuse_plans.specs.Works.{keep, needed, ask, give_unless, refusal_in, unless_refused, obtain, opened_of_reply, number_of_reply}
-use Rattle.fuse_plans.specs.Flags.{mode_in, is_trunc, creating, making}
+use Rattle.fuse_plans.specs.Flags.{mode_in, is_trunc, opening, creating, making}
 use Rattle.fuse_plans.specs.NamePlans.{tell_made, make_by, make_link, make_directory, make_closed, make_file}
-use Rattle.fuse_plans.specs.FilePlans.{or_opened, open_or_make, tell_created, create_file}
+use Rattle.fuse_plans.specs.FilePlans.{asked_mode, or_opened, open_or_make, tell_created, create_file}
 use Rattle.fuse_plans.specs.Laws.{made_by, counted_once}
-use Rattle.fuse_plans.proofs.QuietWorks.{quiet-if, quiet-give, quiet-fail, quiet->>=, quiet-needed, quiet-who_asks, quiet-inside, quiet-look, quiet-the_number, quiet-new_valid, quiet-told_stamps, quiet-look_open, quiet-directory_for, quiet-kept}
-use Rattle.fuse_plans.proofs.Recordings.{Memory, Counted, Known, Leads, leads-give, leads-fail, leads->>=, leads-attempt, leads-if, leads-quiet}
+use Rattle.fuse_plans.proofs.Said.{unopened}
+use Rattle.fuse_plans.proofs.Looks.{looks-give, looks-fail, looks-kept, looks->>=, looks-if, looks-needed, looks-look, looks-the_number, looks-told_stamps, looks-new_valid, looks-look_open, looks-directory_for}
+use Rattle.fuse_plans.proofs.Recordings.{Memory, Counted, Known, Leads, leads-give, leads-fail, leads->>=, leads-attempt, leads-if, leads-looking, leads-inside}
 
 -- ---- the number of what is made
 
@@ -112,37 +113,37 @@ module _ {r : Request} where
   unfolding tell_made keep
   leads-made now name_valid d n =
       leads->>= {T = λ kept m t. Counted m t} (record { at = λ m t owed. sym owed }) (λ kept.
-      leads-quiet (quiet->>= (quiet-look n) (λ status. quiet->>= (quiet-told_stamps status.ino) (λ stamps. quiet-kept _))))
+      leads-looking (looks->>= (looks-look n) (λ status. looks->>= (looks-told_stamps status.ino) (λ stamps. looks-kept _))))
 
   -- ---- each request
 
   leads-make_by : (a : Asked) (d umask : ℕ) (call : Call) → Makes call number_of_reply → Leads r Counted (λ body m t. Counted m t) (make_by a d umask call)
   leads-make_by a d umask call makes =
-      leads->>= (leads-quiet (quiet-new_valid d)) (λ name_valid.
-      leads->>= (leads-quiet (quiet-who_asks a.cred)) (λ cred.
+      leads->>= (leads-looking (looks-new_valid d)) (λ name_valid.
+      leads->>= (leads-looking (looks-needed _ a.cred)) (λ cred.
       leads->>= (leads-make _ call number_of_reply makes) (λ reply.
       leads->>= (leads-number _ (number_of_reply reply)) (λ n. leads-made a.now name_valid d n))))
 
   pub leads-make_link : (a : Asked) (name target : List ℕ) → Leads r Counted (λ body m t. Counted m t) (make_link a name target)
-  leads-make_link a name target = leads->>= (leads-quiet (quiet-directory_for a.node name)) (λ d. leads-make_by a d _ _ (makes-link target name))
+  leads-make_link a name target = leads->>= (leads-looking (looks-directory_for a.node name)) (λ d. leads-make_by a d _ _ (makes-link target name))
 
   pub leads-make_directory : (a : Asked) (name : List ℕ) (mode umask : ℕ) → Leads r Counted (λ body m t. Counted m t) (make_directory a name mode umask)
-  leads-make_directory a name mode umask = leads->>= (leads-quiet (quiet-directory_for a.node name)) (λ d. leads-make_by a d _ _ (makes-directory name _))
+  leads-make_directory a name mode umask = leads->>= (leads-looking (looks-directory_for a.node name)) (λ d. leads-make_by a d _ _ (makes-directory name _))
 
   -- what is done by a handle makes nothing
   leads-make_closed : (a : Asked) (d umask : ℕ) (call : Call) → Makes call number_opened → Leads r Counted (λ body m t. Counted m t) (make_closed a d umask call)
   unfolding ask
   leads-make_closed a d umask call makes =
-      leads->>= (leads-quiet (quiet-new_valid d)) (λ name_valid.
-      leads->>= (leads-quiet (quiet-who_asks a.cred)) (λ cred.
+      leads->>= (leads-looking (looks-new_valid d)) (λ name_valid.
+      leads->>= (leads-looking (looks-needed _ a.cred)) (λ cred.
       leads->>= (leads-make _ call number_opened makes) (λ reply.
       leads->>= (leads-opened _ (opened_of_reply reply)) (λ opened.
       leads->>= {T = λ closed. Owed (Some opened.1)} (record { at = λ m t owed. (tt, λ closed. owed) }) (λ closed. leads-made a.now name_valid d opened.1)))))
 
   pub leads-make_file : (a : Asked) (name : List ℕ) (mode umask : ℕ) → Leads r Counted (λ body m t. Counted m t) (make_file a name mode umask)
   leads-make_file a name mode umask =
-      leads->>= (leads-quiet (quiet-if _ _ _ (quiet-give tt) (quiet-fail _))) (λ file.
-      leads->>= (leads-quiet (quiet-directory_for a.node name)) (λ d. leads-make_closed a d _ _ (makes-file name making _ refl)))
+      leads->>= (leads-looking (looks-if _ _ _ (looks-give tt) (looks-fail _))) (λ file.
+      leads->>= (leads-looking (looks-directory_for a.node name)) (λ d. leads-make_closed a d _ _ (makes-file name making _ refl)))
 
   -- ---- what is made or opened
 
@@ -151,7 +152,7 @@ module _ {r : Request} where
   leads-or_opened cred d name mode flags (Ok reply) = leads-give (reply, true) (λ m t owed. owed)
   leads-or_opened cred d name mode flags (Err e) =
       leads-if _ _ _
-      (leads->>= (leads-quiet (quiet-inside cred d _ refl)) (λ reply. leads-give (reply, false) (λ m t counts. counts)))
+      (leads->>= (leads-inside cred d _ (λ reply. unopened name (opening (asked_mode flags mode) (is_trunc flags)) 0 reply refl)) (λ reply. leads-give (reply, false) (λ m t counts. counts)))
       (leads-fail e (λ m t counts. counts))
 
   leads-open_or_make : (cred : Credential) (umask d : ℕ) (name : List ℕ) (mode : Mode) (flags file_mode : ℕ)
@@ -175,14 +176,14 @@ module _ {r : Request} where
       → Leads r (OwedIf is_new (Some opened.1)) (λ body m t. Counted m t) (tell_created now name_valid d is_new is_cut opened)
   unfolding tell_created
   leads-tell_created now name_valid d is_new is_cut opened =
-      leads->>= (leads-told now d opened.1 is_new is_cut) (λ kept. leads-quiet (quiet->>= (quiet-look_open opened.0 opened.1) (λ seen. quiet-kept _)))
+      leads->>= (leads-told now d opened.1 is_new is_cut) (λ kept. leads-looking (looks->>= (looks-look_open opened.0 opened.1) (λ seen. looks-kept _)))
 
   pub leads-create_file : (a : Asked) (name : List ℕ) (flags file_mode umask : ℕ) → Leads r Counted (λ body m t. Counted m t) (create_file a name flags file_mode umask)
   leads-create_file a name flags file_mode umask =
-      leads->>= (leads-quiet (quiet-if _ _ _ (quiet-fail _) (quiet-give tt))) (λ plain.
-      leads->>= (leads-quiet (quiet-needed _ (mode_in flags))) (λ mode.
-      leads->>= (leads-quiet (quiet-the_number a.node)) (λ d.
-      leads->>= (leads-quiet (quiet-new_valid d)) (λ name_valid.
-      leads->>= (leads-quiet (quiet-who_asks a.cred)) (λ cred.
+      leads->>= (leads-looking (looks-if _ _ _ (looks-fail _) (looks-give tt))) (λ plain.
+      leads->>= (leads-looking (looks-needed _ (mode_in flags))) (λ mode.
+      leads->>= (leads-looking (looks-the_number a.node)) (λ d.
+      leads->>= (leads-looking (looks-new_valid d)) (λ name_valid.
+      leads->>= (leads-looking (looks-needed _ a.cred)) (λ cred.
       leads->>= (leads-open_or_make cred _ d name mode flags file_mode) (λ opened.
       leads->>= (leads-handle _ opened.1 (opened_of_reply opened.0)) (λ handle. leads-tell_created a.now name_valid d opened.1 (is_trunc flags) handle)))))))

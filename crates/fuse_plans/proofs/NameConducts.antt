@@ -22,8 +22,10 @@ use Rattle.fuse_plans.specs.declared.request.Asked.{Asked}
 use Rattle.fuse_plans.specs.Callers.{server_credential, actor_at, actor_in}
 use Rattle.fuse_plans.specs.NamePlans.{plain_name, directory_for, tell_named, or_absent, searched_directory, found_or_absent, find_inside, searcher, find_name, new_valid_if, new_valid, tell_made, make_by, make_link, make_directory, make_closed, make_file, number_named_if, number_named, remove, none_there, nothing_to_replace, may_move, rename, move_name, link_as, add_link}
 use Rattle.fuse_plans.specs.Acts.{Subject, AskedBefore, given_name, IsObject, of_old_node, IsToldOf, IsGivenName, IsNewName, is_new, path_of, on_name, on_new_name, moves, links}
-use Rattle.fuse_plans.specs.Conduct.{Rights, only_looks, MayCall, as_who_asks, as_server, MayAsk}
-use Rattle.fuse_plans.proofs.Conducts.{Any, Still, SameAll, DoesTo, Does, Lasts, OkTo, gives, does-give, does-fail, does-kept, does-keep, does-if, does-weaker, then->>=, with->>=, does->>=, does-attempt, does-lasts, lasts-then, lasts-with, lasts->>=, keep-lasts}
+use Rattle.fuse_plans.specs.Conduct.{Rights, only_looks, MayCall, as_who_asks, as_server}
+use Rattle.fuse_plans.specs.Alterations.{adds_name, links_name, takes_name, moves_name, alterations_by, IsToldIn, AreTold}
+use Rattle.fuse_plans.proofs.Said.{Told, told-by, changing}
+use Rattle.fuse_plans.proofs.Conducts.{MayDo, Still, SameAll, DoesTo, Does, Lasts, OkTo, gives, does-give, does-fail, does-kept, does-keep, does-if, does-weaker, then->>=, with->>=, does->>=, does-attempt, lasts-then, lasts-with, lasts->>=, keep-lasts}
 use Rattle.fuse_plans.proofs.Calls.{About, an_object, was_told, told-later, opened-told, may-close, does-ask, does-obtain, does-inside, does-look_inside, does-replied_opened, does-replied_number, does-look, does-list_hides, does-told_stamps, IsOwn, IsFor, own-object, gives-own, gives-number, gives-caller}
 
 -- ---- what the server keeps
@@ -46,15 +48,15 @@ in-own name given own = record { is_name = given; directory = own }
 
 -- who asks may call on a name that is given
 pub names-as : {rights : Rights} {past : AskedBefore} {d : ℕ} {name : List ℕ} (cred : Credential) (umask : ℕ) (call : Call) → rights.cred ≡ Some cred → path_of call ≡ Some name
-    → IsGivenName rights.subject d name → MayAsk rights past (CallAt (actor_at cred umask d d) call)
-names-as {d = d} {name = name} cred umask call who path is = (as_who_asks who, on_name d name (record { first = refl; second = refl }) is path)
+    → AreTold rights.subject.operation (alterations_by call) → IsGivenName rights.subject d name → MayDo rights past (CallAt (actor_at cred umask d d) call)
+names-as {d = d} {name = name} cred umask call who path told is = ((as_who_asks who, on_name d name (record { first = refl; second = refl }) is path), told)
 
 -- and the server may look at it
-looks-named : {rights : Rights} {past : AskedBefore} {d : ℕ} {name : List ℕ} → IsGivenName rights.subject d name → MayAsk rights past (CallAt (actor_in server_credential d) (Lstat name))
-looks-named {d = d} {name = name} is = (as_server refl refl, on_name d name (record { first = refl; second = refl }) is refl)
+looks-named : {rights : Rights} {past : AskedBefore} {d : ℕ} {name : List ℕ} → IsGivenName rights.subject d name → MayDo rights past (CallAt (actor_in server_credential d) (Lstat name))
+looks-named {d = d} {name = name} is = ((as_server refl refl, on_name d name (record { first = refl; second = refl }) is refl), tt)
 
-looks-new : {rights : Rights} {past : AskedBefore} {d : ℕ} {name : List ℕ} → IsNewName rights.subject d name → MayAsk rights past (CallAt (actor_in server_credential d) (Lstat name))
-looks-new {d = d} {name = name} is = (as_server refl refl, on_new_name d name (record { first = refl; second = refl }) is refl)
+looks-new : {rights : Rights} {past : AskedBefore} {d : ℕ} {name : List ℕ} → IsNewName rights.subject d name → MayDo rights past (CallAt (actor_in server_credential d) (Lstat name))
+looks-new {d = d} {name = name} is = ((as_server refl refl, on_new_name d name (record { first = refl; second = refl }) is refl), tt)
 
 module _ {rights : Rights} {P : Server → Type 0} {known : AskedBefore} where
   pub does-plain_name : (name : List ℕ) → Does rights P known (plain_name name)
@@ -75,7 +77,7 @@ module _ {rights : Rights} {P : Server → Type 0} {known : AskedBefore} where
   does-found_or_absent nobody (Ok status) = does->>= (does-told_stamps _) (λ stamps. does-kept _)
   does-found_or_absent nobody (Err e) = does->>= (does-kept _) (λ settings. does-if _ _ _ (does-give _) (does-fail _))
 
-  pub does-find_inside : (nobody : Bool) (cred : Credential) (d : ℕ) (name : List ℕ) → MayAsk rights known (CallAt (actor_in cred d) (Lstat name))
+  pub does-find_inside : (nobody : Bool) (cred : Credential) (d : ℕ) (name : List ℕ) → MayDo rights known (CallAt (actor_in cred d) (Lstat name))
       → Does rights P known (find_inside nobody cred d name)
   does-find_inside nobody cred d name may = does->>= (does-attempt (does-look_inside cred d name may)) (does-found_or_absent nobody)
 
@@ -87,12 +89,12 @@ module _ {rights : Rights} {P : Server → Type 0} {known : AskedBefore} where
   unfolding new_valid
   does-new_valid d about = does->>= (does-kept _) (λ settings. does-new_valid_if d _ _ about)
 
-  does-number_named_if : (keeps : Bool) (d : ℕ) (name : List ℕ) → MayAsk rights known (CallAt (actor_in server_credential d) (Lstat name))
+  does-number_named_if : (keeps : Bool) (d : ℕ) (name : List ℕ) → MayDo rights known (CallAt (actor_in server_credential d) (Lstat name))
       → Does rights P known (number_named_if keeps d name)
   does-number_named_if true d name may = does-give None
   does-number_named_if false d name may = does->>= (does-attempt (does-look_inside server_credential d name may)) (λ seen. does-give _)
 
-  does-number_named : (d : ℕ) (name : List ℕ) → MayAsk rights known (CallAt (actor_in server_credential d) (Lstat name)) → Does rights P known (number_named d name)
+  does-number_named : (d : ℕ) (name : List ℕ) → MayDo rights known (CallAt (actor_in server_credential d) (Lstat name)) → Does rights P known (number_named d name)
   unfolding number_named
   does-number_named d name may = does->>= (does-kept _) (λ keeps. does-number_named_if keeps d name may)
 
@@ -131,51 +133,54 @@ module _ {rights : Rights} (r : Asked) (of : IsFor rights r) where
         with->>= (gives-searched_directory name given) (λ d own.
         with->>= gives-searcher (λ cred may.
         does-find_inside r.needs_nobody cred d name
-        (may known (actor_in cred d) (Lstat name) refl refl, on_name d name (record { first = refl; second = refl }) (in-own name given own) refl)))
+        ((may known (actor_in cred d) (Lstat name) refl refl, on_name d name (record { first = refl; second = refl }) (in-own name given own) refl), tt)))
     -- ---- what is made
 
-  lasts-tell_made : {known : AskedBefore} (now : Time) (name_valid d n : ℕ) → IsToldOf known n → Lasts rights (Still rights) known (tell_made now name_valid d n)
-  unfolding tell_made
-  lasts-tell_made now name_valid d n told =
-      keep-lasts {Q = Any} (with_new_object now d n) (λ s. refl) (λ s still. tt) (does-lasts (does-tell_named name_valid n (was_told told)))
+  module _ (name : List ℕ) (given : given_name rights.subject.operation ≡ Some name) (adds : Told rights.subject.operation (adds_name name)) where
+    lasts-tell_made : {known : AskedBefore} (now : Time) (name_valid d n : ℕ) → IsToldOf known n → Lasts rights known (tell_made now name_valid d n)
+    unfolding tell_made
+    lasts-tell_made now name_valid d n told =
+        keep-lasts (with_new_object now d n) (λ s. refl) adds (does-tell_named name_valid n (was_told told))
 
-  module _ {known : AskedBefore} (name : List ℕ) (given : given_name rights.subject.operation ≡ Some name) where
-    lasts-make_by : (d umask : ℕ) (call : Call) → path_of call ≡ Some name → IsOwn rights d → Lasts rights (Still rights) known (make_by r d umask call)
-    lasts-make_by d umask call path own =
+    lasts-make_by : {known : AskedBefore} (d umask : ℕ) (call : Call) → path_of call ≡ Some name → AreTold rights.subject.operation (alterations_by call) → IsOwn rights d
+        → Lasts rights known (make_by r d umask call)
+    lasts-make_by d umask call path says own =
         lasts->>= (does-new_valid d (own-object own)) (λ name_valid.
         lasts-with (gives-caller _ of.cred) (λ cred who.
-        lasts-then (does-obtain _ (names-as cred umask call who path (in-own name given own))) (λ reply asked_then more asked.
+        lasts-then (does-obtain _ (names-as cred umask call who path says (in-own name given own))) (λ reply asked_then more asked.
         lasts-then (does-replied_number _ reply asked) (λ n told_then again told. lasts-tell_made r.now name_valid d n told))))
 
-    lasts-make_closed : (d umask : ℕ) (call : Call) → rights.handle ≡ None → path_of call ≡ Some name → IsOwn rights d → Lasts rights (Still rights) known (make_closed r d umask call)
-    lasts-make_closed d umask call alone path own =
+    lasts-make_closed : {known : AskedBefore} (d umask : ℕ) (call : Call) → rights.handle ≡ None → path_of call ≡ Some name
+        → AreTold rights.subject.operation (alterations_by call) → IsOwn rights d → Lasts rights known (make_closed r d umask call)
+    lasts-make_closed d umask call alone path says own =
         lasts->>= (does-new_valid d (own-object own)) (λ name_valid.
         lasts-with (gives-caller _ of.cred) (λ cred who.
-        lasts-then (does-obtain _ (names-as cred umask call who path (in-own name given own))) (λ reply asked_then more asked.
+        lasts-then (does-obtain _ (names-as cred umask call who path says (in-own name given own))) (λ reply asked_then more asked.
         lasts-then (does-replied_opened _ reply asked) (λ opened told_then again is.
         lasts-then (does-ask _ (may-close alone is)) (λ closed closed_then later was. lasts-tell_made r.now name_valid d opened.1 (told-later later (opened-told is)))))))
 
-  module _ {known : AskedBefore} (name : List ℕ) (given : given_name rights.subject.operation ≡ Some name) where
-    pub lasts-make_link : (target : List ℕ) → Lasts rights (Still rights) known (make_link r name target)
-    lasts-make_link target = lasts-with (gives-directory_for name given) (λ d own. lasts-make_by name given d _ _ refl own)
+    pub lasts-make_link : {known : AskedBefore} (target : List ℕ) → Lasts rights known (make_link r name target)
+    lasts-make_link target = lasts-with (gives-directory_for name given) (λ d own. lasts-make_by d _ _ refl (adds.is, tt) own)
 
-    pub lasts-make_directory : (mode umask : ℕ) → Lasts rights (Still rights) known (make_directory r name mode umask)
-    lasts-make_directory mode umask = lasts-with (gives-directory_for name given) (λ d own. lasts-make_by name given d _ _ refl own)
+    pub lasts-make_directory : {known : AskedBefore} (mode umask : ℕ) → Lasts rights known (make_directory r name mode umask)
+    lasts-make_directory mode umask = lasts-with (gives-directory_for name given) (λ d own. lasts-make_by d _ _ refl (adds.is, tt) own)
 
-    pub lasts-make_file : (mode umask : ℕ) → rights.handle ≡ None → Lasts rights (Still rights) known (make_file r name mode umask)
+    pub lasts-make_file : {known : AskedBefore} (mode umask : ℕ) → rights.handle ≡ None → Lasts rights known (make_file r name mode umask)
     lasts-make_file mode umask alone =
         lasts->>= (does-if _ _ _ (does-give tt) (does-fail _)) (λ file.
-        lasts-with (gives-directory_for name given) (λ d own. lasts-make_closed name given d _ _ alone refl own))
+        lasts-with (gives-directory_for name given) (λ d own. lasts-make_closed d _ _ alone refl (adds.is, tt) own))
 
+  module _ {known : AskedBefore} (name : List ℕ) (given : given_name rights.subject.operation ≡ Some name) where
     -- ---- names that go
 
-    pub does-remove : (call : List ℕ → Call) → path_of (call name) ≡ Some name → Does rights (Still rights) known (remove r call name)
-    does-remove call path =
+    pub does-remove : (call : List ℕ → Call) → path_of (call name) ≡ Some name → (IsToldIn rights.subject.operation (takes_name name) → AreTold rights.subject.operation (alterations_by (call name)))
+        → Told rights.subject.operation (takes_name name) → Does rights (Still rights) known (remove r call name)
+    does-remove call path says takes =
         with->>= (gives-directory_for name given) (λ d own.
         with->>= (gives-caller _ of.cred) (λ cred who.
         does->>= (does-number_named d name (looks-named (in-own name given own))) (λ gone.
-        does->>= (does-inside cred d _ (names-as cred 0 (call name) who path (in-own name given own))) (λ done.
-        does->>= (does-keep _ (removed-same r.now d gone)) (λ noted. does-give _)))))
+        does->>= (does-inside cred d _ (names-as cred 0 (call name) who path (says takes.is) (in-own name given own))) (λ done.
+        does->>= (does-keep _ (removed-same r.now d gone) (changing takes)) (λ noted. does-give _)))))
 
   -- ---- names that lead elsewhere
 
@@ -184,15 +189,15 @@ module _ {rights : Rights} (r : Asked) (of : IsFor rights r) where
         → Does rights (Still rights) known (nothing_to_replace flags cred d name)
     does-nothing_to_replace flags cred d name who renamed =
         does-if _ _ _ (does-give tt)
-        (does->>= (does-attempt (does-inside cred d _ (as_who_asks who, on_new_name d name (record { first = refl; second = refl }) renamed refl))) does-none_there)
+        (does->>= (does-attempt (does-inside cred d _ ((as_who_asks who, on_new_name d name (record { first = refl; second = refl }) renamed refl), tt))) does-none_there)
 
     does-rename : (cred : Credential) (d : ℕ) (name : List ℕ) (new : ℕ) (new_name : List ℕ) → rights.cred ≡ Some cred → IsGivenName rights.subject d name → IsNewName rights.subject new new_name
-        → Does rights (Still rights) known (rename r.now cred d name new new_name)
-    does-rename cred d name new new_name who given renamed =
+        → Told rights.subject.operation (moves_name name new_name) → Does rights (Still rights) known (rename r.now cred d name new new_name)
+    does-rename cred d name new new_name who given renamed told =
         does->>= (does-number_named d name (looks-named given)) (λ object.
         does->>= (does-number_named new new_name (looks-new renamed)) (λ replaced.
-        does->>= (does-obtain _ (as_who_asks who, moves name new_name refl given renamed)) (λ done.
-        does->>= (does-keep _ (moved-same r.now d new object replaced)) (λ noted. does-give _))))
+        does->>= (does-obtain _ ((as_who_asks who, moves name new_name refl given renamed), (told.is, tt))) (λ done.
+        does->>= (does-keep _ (moved-same r.now d new object replaced) (changing told)) (λ noted. does-give _))))
 
   module _ {known : AskedBefore} where
     pub does-move_name : (name : List ℕ) (new_node : ℕ) (new_name : List ℕ) (flags : ℕ) → rights.subject.operation ≡ Some (Rename name new_node new_name flags)
@@ -203,19 +208,20 @@ module _ {rights : Rights} (r : Asked) (of : IsFor rights r) where
         with->>= (gives-number new_node) (λ new was.
         with->>= (gives-caller _ of.cred) (λ cred who.
         does->>= (does-nothing_to_replace flags cred new new_name who (is_new name new_node flags asked was)) (λ none.
-        does-rename cred d name new new_name who (in-own name (ap given_name asked) own) (is_new name new_node flags asked was))))))
+        does-rename cred d name new new_name who (in-own name (ap given_name asked) own) (is_new name new_node flags asked was) (told-by asked (refl, refl)))))))
 
     -- ---- one more name
 
-    does-link_as : (n d : ℕ) (name : List ℕ) → IsObject rights.subject n → IsGivenName rights.subject d name → Does rights (Still rights) known (link_as r n d name)
-    does-link_as n d name object given =
+    does-link_as : (n d : ℕ) (name : List ℕ) → IsObject rights.subject n → IsGivenName rights.subject d name
+        → Told rights.subject.operation (links_name name) → Does rights (Still rights) known (link_as r n d name)
+    does-link_as n d name object given told =
         with->>= (gives-caller _ of.cred) (λ cred who.
-        does->>= (does-obtain _ (as_who_asks who, links name refl object given)) (λ done.
-        does->>= (does-keep (linked r.now d n) (λ s. (refl, refl))) (λ noted. does-tell_named 0 n (an_object object))))
+        does->>= (does-obtain _ ((as_who_asks who, links name refl object given), (told.is, tt))) (λ done.
+        does->>= (does-keep (linked r.now d n) (λ s. (refl, refl)) (changing told)) (λ noted. does-tell_named 0 n (an_object object))))
 
   module _ {known : AskedBefore} where
     pub does-add_link : (old_node : ℕ) (name : List ℕ) → rights.subject.operation ≡ Some (Link old_node name) → Does rights (Still rights) known (add_link r old_node name)
     does-add_link old_node name asked =
         with->>= (gives-directory_for name (ap given_name asked)) (λ d own.
         with->>= (gives-number old_node) (λ n was.
-        does-link_as n d name (of_old_node old_node name asked was) (in-own name (ap given_name asked) own)))
+        does-link_as n d name (of_old_node old_node name asked was) (in-own name (ap given_name asked) own) (told-by asked refl)))

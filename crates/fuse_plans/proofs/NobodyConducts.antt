@@ -13,13 +13,10 @@ use Rattle.fuse_plans.specs.Works.{Work}
 use Rattle.fuse_plans.specs.Masks.{is_masked}
 use Rattle.fuse_plans.specs.Nobody.{unless_masked, is_judged, needs_nobody, asks_alone, is_granted, or_process, or_user, who_counts_in}
 use Rattle.fuse_plans.specs.Acts.{AskedBefore}
-use Rattle.fuse_plans.specs.Conduct.{Rights, conduct}
-use Rattle.fuse_plans.proofs.Conducts.{Still, begins, LeftTo, Does, does-give, with->>=, does->>=, keeps-followed_by}
+use Rattle.fuse_plans.specs.Conduct.{Rights}
+use Rattle.fuse_plans.proofs.PlanLaws.{Whatever, keeps-followed_by}
+use Rattle.fuse_plans.proofs.Conducts.{doing, Still, begins, LeftTo, Does, does-give, with->>=, does->>=}
 use Rattle.fuse_plans.proofs.Calls.{does-list_of, does-list_hides, does-look, own-object, gives-number}
-
--- whatever comes of it
-abbrev pub Whatever : {X : Type 0} → AskedBefore → X → Type 0
-Whatever past x = Unit {0}
 
 module _ {rights : Rights} {known : AskedBefore} where
   does-is_masked : Does rights (Still rights) known (is_masked rights.subject.node)
@@ -35,28 +32,28 @@ module _ {rights : Rights} {known : AskedBefore} where
 
 module _ (rights : Rights) (s : Server) (start : rights.subject.start ≡ s) where
   keeps-answer : {X Y : Type 0} (w : Work X) (f : Result X RequestError → Y) (past : AskedBefore) → Does rights (Still rights) [] w
-      → KeepsTo (conduct rights) Whatever past (followed_by (w s) (λ r. Finish (f r.0)))
+      → KeepsTo (doing rights) Whatever past (followed_by (w s) (λ r. Finish (f r.0)))
   keeps-answer w f past does =
-      keeps-followed_by (conduct rights) (LeftTo rights (Still rights) [] (λ n x. Unit {0})) Whatever (w s) (λ r. Finish (f r.0)) past
+      keeps-followed_by (doing rights) (LeftTo rights (Still rights) [] (λ n x. Unit {0})) Whatever (w s) (λ r. Finish (f r.0)) past
       (does.goes past s (begins rights s start past)) (λ n r left. tt)
 
-  keeps-is_judged : (judges : Bool) (past : AskedBefore) → KeepsTo (conduct rights) Whatever past (is_judged rights.subject.node judges s)
+  keeps-is_judged : (judges : Bool) (past : AskedBefore) → KeepsTo (doing rights) Whatever past (is_judged rights.subject.node judges s)
   keeps-is_judged false past = tt
   keeps-is_judged true past = keeps-answer (is_masked rights.subject.node) unless_masked past does-is_masked
 
   -- of all but look-ups nothing is asked
-  keeps-needs_nobody : (operation : Operation) (past : AskedBefore) → KeepsTo (conduct rights) Whatever past (needs_nobody rights.subject.node operation s)
+  keeps-needs_nobody : (operation : Operation) (past : AskedBefore) → KeepsTo (doing rights) Whatever past (needs_nobody rights.subject.node operation s)
   keeps-needs_nobody (Lookup name) past = keeps-is_judged s.settings.posix_acl past
   keeps-needs_nobody (ReadDirPlus extent) past = keeps-is_judged s.settings.posix_acl past
   keeps-needs_nobody _ past = tt
 
-  keeps-or_user : (nobody : Bool) (want : Option Perms) (uid : ℕ) (past : AskedBefore) → KeepsTo (conduct rights) Whatever past (or_user nobody want rights.subject.node uid s)
+  keeps-or_user : (nobody : Bool) (want : Option Perms) (uid : ℕ) (past : AskedBefore) → KeepsTo (doing rights) Whatever past (or_user nobody want rights.subject.node uid s)
   keeps-or_user true want uid past = tt
   keeps-or_user false None uid past = tt
   keeps-or_user false (Some want) uid past = keeps-answer (is_granted rights.subject.node uid want) or_process past (does-is_granted uid want)
 
-  pub keeps-who_counts_in : (uid : ℕ) (operation : Option Operation) (past : AskedBefore) → KeepsTo (conduct rights) Whatever past (who_counts_in rights.subject.node uid operation s)
+  pub keeps-who_counts_in : (uid : ℕ) (operation : Option Operation) (past : AskedBefore) → KeepsTo (doing rights) Whatever past (who_counts_in rights.subject.node uid operation s)
   keeps-who_counts_in uid None past = tt
   keeps-who_counts_in uid (Some operation) past =
-      keeps-followed_by (conduct rights) Whatever Whatever (needs_nobody rights.subject.node operation s) (λ nobody. or_user nobody (asks_alone operation) rights.subject.node uid s) past
+      keeps-followed_by (doing rights) Whatever Whatever (needs_nobody rights.subject.node operation s) (λ nobody. or_user nobody (asks_alone operation) rights.subject.node uid s) past
       (keeps-needs_nobody operation past) (λ n nobody left. keeps-or_user nobody (asks_alone operation) uid n)

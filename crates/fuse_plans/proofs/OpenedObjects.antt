@@ -1,7 +1,7 @@
 -- What an OPEN has opened is the object of its node.
 --     Opens        what is told was opened last, and is the object
 --     opened_is_the_object
-use Rattle.std.specs.Prelude.{◌≡◌, ℕ, Bool, List, [], ◌∷◌, length, Option, None, Some, unwrap_or}
+use Rattle.std.specs.Prelude.{◌≡◌, ℕ, Bool, true, false, List, [], ◌∷◌, length, None, Some}
 use Rattle.std.proofs.Common.{refl, sym, ap, subst, ◌∙◌, arith}
 use Rattle.fs_cred.specs.Credentials.{Credential}
 use Rattle.fs_model.specs.declared.call.Call.TheVariants.{Open as OpenCall}
@@ -10,7 +10,6 @@ use Rattle.fs_model.specs.declared.event.Event.TheVariants.{CallAt}
 use Rattle.fs_model.specs.declared.reply.Reply.{Reply}
 use Rattle.fs_model.specs.declared.reply.Reply.TheVariants.{Opened as OpenedBy}
 use Rattle.fuse_protocol.specs.declared.flags.OpenedFlags.{OpenedFlags}
-use Rattle.fuse_protocol.specs.declared.operation.Operation.{Operation}
 use Rattle.fuse_protocol.specs.declared.operation.Operation.TheVariants.{Open}
 use Rattle.fuse_protocol.specs.declared.reply.Time.{Time}
 use Rattle.fuse_state.specs.Servers.{Server, number_of_node}
@@ -25,11 +24,11 @@ use Rattle.fuse_plans.specs.Callers.{actor_in, the_number}
 use Rattle.fuse_plans.specs.Flags.{mode_in, is_trunc, opening}
 use Rattle.fuse_plans.specs.FilePlans.{touched_if, opener, asked_mode, file_flags, opened_body, open_object, open_file}
 use Rattle.fuse_plans.specs.Laws.{OpenedObject, OpenedIsTheObject}
-use Rattle.fuse_plans.specs.Serving.{plan_of, request_plan}
+use Rattle.fuse_plans.specs.Serving.{request_plan}
 use Rattle.fuse_plans.proofs.PlanLaws.{keeps-follows}
-use Rattle.fuse_plans.proofs.QuietWorks.{quiet-needed, quiet-who_asks}
-use Rattle.fuse_plans.proofs.QuietRequests.{quiet-ask_first, same-touched_if}
-use Rattle.fuse_plans.proofs.Recordings.{History, events, replies_in, Memory, recording, at_first, Counted, Leads, Begun, TaskLeads, leads->>=, leads-from, leads-to, leads-where, leads-needed, leads-quiet, leads-on, keeps-request, history_is}
+use Rattle.fuse_plans.proofs.Said.{unopened}
+use Rattle.fuse_plans.proofs.Looks.{looks-needed, looks-ask_first}
+use Rattle.fuse_plans.proofs.Recordings.{History, events, replies_in, Memory, recording, at_first, Counted, Leads, Begun, leads->>=, leads-from, leads-to, leads-where, leads-needed, leads-looking, leads-on, keeps-request, history_is}
 
 -- ---- work
 
@@ -47,6 +46,10 @@ opened_is handle h told flags is = ap (λ b. handle_told b) is
 reply_is : (reply : Reply) (opened : ℕ × ℕ) → opened_of_reply reply ≡ Some opened → reply ≡ OpenedBy opened.0 opened.1
 reply_is (OpenedBy handle n) opened is = cc
 reply_is _ opened is = absurd (let no : None ≡ Some opened = is in cc)
+
+same-touched_if : (cut : Bool) (now : Time) (n : ℕ) (t : Server) → (touched_if cut now n t).generations ≡ t.generations
+same-touched_if true now n t = refl
+same-touched_if false now n t = refl
 
 module _ (r : Request) (s : Server) (n : ℕ) (of_node : number_of_node s r.node ≡ Some n) where
   -- the object was opened last, and has this handle
@@ -88,8 +91,8 @@ module _ (r : Request) (s : Server) (n : ℕ) (of_node : number_of_node s r.node
   leads-open_object : (now : Time) (cred : Credential) (flags : ℕ) (mode : Mode)
       → Leads r Counted (λ body m t. Opens r s body m.asked × Counted m t) (open_object now cred n flags mode)
   leads-open_object now cred flags mode =
-      leads->>= (leads-quiet (quiet-ask_first cred n flags)) (λ asked.
-      leads->>= (leads-on (opener cred flags mode) n _ refl) (λ reply.
+      leads->>= (leads-looking (looks-ask_first cred n flags)) (λ asked.
+      leads->>= (leads-on (opener cred flags mode) n _ (λ reply. unopened [] (opening (asked_mode flags mode) (is_trunc flags)) 0 reply refl)) (λ reply.
       leads->>= (leads-needed (λ m t known. known.1) _ (opened_of_reply reply)) (λ opened.
       leads-from (λ m t known. (was_opened cred mode flags reply opened m.asked known.0 known.1.0.last, known.1.1)) (leads-told now cred mode flags opened))))
 
@@ -110,8 +113,8 @@ module _ (r : Request) (s : Server) where
   leads-open_file nobody flags =
       leads->>= leads-the_number (λ n.
       leads-where (number_of_node s r.node ≡ Some n) (λ of_node.
-      leads->>= (leads-quiet (quiet-needed _ (mode_in flags))) (λ mode.
-      leads->>= (leads-quiet (quiet-who_asks r.cred)) (λ cred. leads-open_object r s n of_node r.now cred flags mode))))
+      leads->>= (leads-looking (looks-needed _ (mode_in flags))) (λ mode.
+      leads->>= (leads-looking (looks-needed _ r.cred)) (λ cred. leads-open_object r s n of_node r.now cred flags mode))))
 
 -- as many replies as events
 pub run-length : {X : Type 0} (p : Plan X) (es : List Event) (replies : List Reply) (x : X) → IsRunOf p es replies x → length replies ≡ length es
@@ -122,19 +125,11 @@ run-length (Ask e next) [] replies x runs = elim runs [ ]
 run-length (Ask e next) (g ∷ es) [] x runs = elim runs [ ]
 run-length (Ask e next) (g ∷ es) (reply ∷ replies) x runs = let rest = run-length (next reply) es replies x runs.1 in omega (arith, rest)
 
-some_is : (a b : Operation) → ◌≡◌ {A = Option Operation} (Some a) (Some b) → a ≡ b
-some_is a b is = ap (λ o. unwrap_or o a) is
-
 pub opened_is_the_object : OpenedIsTheObject
 opened_is_the_object r s t flags es replies handle told is runs =
-    let follows = keeps-follows (recording r) _ (request_plan r s) es replies (Says (Opened handle told), t) _ (keeps-request r s (λ body m u. Opens r s body m.asked × Counted m u) leads) runs in
+    let leads = keeps-request r s (λ body m u. Opens r s body m.asked × Counted m u) (Open flags) is (λ nobody. leads-open_file r s nobody flags.0) in
+    let follows = keeps-follows (recording r) _ (request_plan r s) es replies (Says (Opened handle told), t) _ leads runs in
     let histories = history_is r (at_first s) es replies (run-length (request_plan r s) es replies (Says (Opened handle told), t) runs) in
     subst (λ l. OpenedObject r s l replies handle) histories.0
     (subst (λ l. OpenedObject r s (events (after_all (recording r) (at_first s) es replies).asked) l handle) histories.1
     (follows.1.0 handle told refl))
-  where
-    leads : (nobody : Bool) (operation : Operation) → r.operation ≡ Some operation
-        → TaskLeads r s (λ body m u. Opens r s body m.asked × Counted m u) (plan_of (asked_of r nobody) r.value operation)
-    leads nobody operation asks =
-        subst (λ o. TaskLeads r s (λ body m u. Opens r s body m.asked × Counted m u) (plan_of (asked_of r nobody) r.value o)) (some_is (Open flags) operation (sym is ∙ asks))
-        (leads-open_file r s nobody flags.0)

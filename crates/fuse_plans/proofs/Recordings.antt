@@ -2,38 +2,39 @@
 --     History, WasAsked, Lasting        what was asked, with its replies, and what stays so whatever is asked
 --     Memory, recording        that, with the generations that follow from it; times are set only by right
 --     Leads        work by which something is known then; where it fails the generations are those that follow
---     leads-quiet        quiet work
+--     leads-looking, leads-keep, leads-ask        work that only looks, a change of what the server keeps, and an event that makes nothing
 --     Answered, leads-on        a call on an object, which wasn't refused
+--     leads-inside, leads-by_handle        one inside a directory, and by a handle
 --     keeps-request        a request, by its work
 --     history_is, generations_are        what is remembered at the end
-use Rattle.std.specs.Prelude.{◌≡◌, ℕ, Bool, true, false, List, [], ◌∷◌, ◌++◌, map, length, Option, None, Some, Result, Ok, Err, IsTrue, IsFalse, if◌then◌else◌}
-use Rattle.std.proofs.Common.{refl, sym, ap, ◌∙◌, arith}
+use Rattle.std.specs.Prelude.{◌≡◌, ℕ, Bool, true, false, List, [], ◌∷◌, ◌++◌, map, length, Option, None, Some, Result, Ok, Err, IsTrue, if◌then◌else◌}
+use Rattle.std.proofs.Common.{refl, sym, ap, subst, ◌∙◌, arith}
 use Rattle.std.proofs.lemmas.List.{append-nil}
 use Rattle.fs_cred.specs.Credentials.{Credential}
 use Rattle.fs_cred.specs.declared.refusal.Refusal.{Refusal}
 use Rattle.fs_model.specs.declared.call.Call.{Call}
-use Rattle.fs_model.specs.declared.call.Call.TheVariants.{Open as OpenCall, Mkdir, Symlink}
 use Rattle.fs_model.specs.declared.event.Event.{Event}
-use Rattle.fs_model.specs.declared.event.Event.TheVariants.{CallAt, Stamp}
+use Rattle.fs_model.specs.declared.event.Event.TheVariants.{CallAt, CallBy, Stamp}
+use Rattle.fs_model.specs.declared.event.HandleCall.{HandleCall}
 use Rattle.fs_model.specs.declared.reply.Reply.{Reply}
-use Rattle.fs_model.specs.declared.reply.Reply.TheVariants.{Opened as OpenedBy}
 use Rattle.fuse_protocol.specs.declared.operation.Operation.{Operation}
 use Rattle.fuse_state.specs.Servers.{Server}
 use Rattle.fuse_plans.specs.declared.reply.ReplyBody.{ReplyBody}
 use Rattle.fuse_plans.specs.declared.reply.Response.{Response}
 use Rattle.fuse_plans.specs.declared.reply.Response.TheVariants.{Silence, Says, Fails}
 use Rattle.fuse_plans.specs.declared.request_error.RequestError.{RequestError}
-use Rattle.fuse_plans.specs.Plans.{Plan, Finish, Ask, followed_by, IsAsked, at_once, later, Restraint, KeepsTo, after_all, MayAskAll}
+use Rattle.fuse_plans.specs.Plans.{Plan, Finish, Ask, IsAsked, at_once, later, Restraint, KeepsTo, after_all}
 use Rattle.fuse_plans.specs.Requests.{Request, asked_of}
-use Rattle.fuse_plans.specs.Works.{Work, give, fail, goes_on, ◌>>=◌, ◌>>◌, attempt, needed, ask, refusal_in}
-use Rattle.fuse_plans.specs.Callers.{actor_in, of_object, on}
-use Rattle.fuse_plans.specs.Alterations.{sets_some, says_change}
+use Rattle.fuse_plans.specs.Works.{Work, give, fail, keep, goes_on, ◌>>=◌, attempt, needed, ask, obtain, refusal_in}
+use Rattle.fuse_plans.specs.Callers.{actor_in, inside, of_object, on}
+use Rattle.fuse_plans.specs.Alterations.{sets_some, says_change, MayBeAsked}
 use Rattle.fuse_plans.specs.Nobody.{who_counts_in, is_nobody}
 use Rattle.fuse_plans.specs.Laws.{made_by, made_by_event, counted_once, makings_counted}
-use Rattle.fuse_plans.specs.Serving.{Task, Replying, Silent, response_of, plan_of, told_first, asked_for, answered, answered_as, request_plan}
+use Rattle.fuse_plans.specs.Serving.{Task, Replying, Silent, response_of, plan_of, asked_for, answered, answered_as, request_plan}
 use Rattle.fuse_plans.specs.TimeLaws.{MaySetTimes}
-use Rattle.fuse_plans.proofs.QuietWorks.{makes, IsQuiet, AsksQuiet, SameNodes, Quiet, quiet-tell_time}
-use Rattle.fuse_plans.proofs.QuietRequests.{Any, QuietTask, quiet-who_counts_in}
+use Rattle.fuse_plans.proofs.PlanLaws.{Whatever, IfReplies, replies-told, keeps-followed_by, keeps-weaker}
+use Rattle.fuse_plans.proofs.Said.{unmade, times-told}
+use Rattle.fuse_plans.proofs.Looks.{looking, SameNodes, Looks, looks-unless_refused, looks-tell_time, looks-who_counts_in}
 
 -- ---- what was asked
 
@@ -101,53 +102,21 @@ recording r = record { after = with_event; may_ask = λ m e. IsByRight r m.asked
 abbrev pub Counted : Memory → Server → Type 0
 Counted m t = t.generations ≡ m.generations
 
--- ---- quiet events
-
-unmade_call : (call : Call) (reply : Reply) → IsFalse (makes call) → made_by call reply ≡ None
-unmade_call (Mkdir path mode) reply is = absurd (let no : true ≡ false = is in cc)
-unmade_call (Symlink target path) reply is = absurd (let no : true ≡ false = is in cc)
-unmade_call (OpenCall path flags mode) (OpenedBy handle n) is = ap (λ b. if b then Some n else None) is
-unmade_call (OpenCall path flags mode) _ is = refl
-unmade_call _ reply is = refl
-
-pub unmade : (e : Event) (reply : Reply) → IsQuiet e → made_by_event e reply ≡ None
-unmade (CallAt actor call) reply is = unmade_call call reply is
-unmade _ reply is = refl
-
-unset : (b : Bool) {A : Type 0} → IsFalse b → IsTrue b → A
-unset b is_false is_true = absurd (let no : true ≡ false = sym is_true ∙ is_false in cc)
-
-pub quiet-by_right : (r : Request) (h : History) (e : Event) → IsQuiet e → IsByRight r h e
-quiet-by_right r h (Stamp n atime mtime ctime) is = λ sets. unset (sets_some atime mtime ctime) is sets
-quiet-by_right r h _ is = tt
-
-still : (m : Memory) (e : Event) (reply : Reply) → IsQuiet e → (with_event m e reply).generations ≡ m.generations
-still m e reply is = ap (λ o. counted_once o m.generations) (unmade e reply is)
-
 -- ---- plans
 
-pub keeps-followed_by : {M X Y : Type 0} (rule : Restraint M) (E : M → X → Type 0) (F : M → Y → Type 0) (p : Plan X) (f : X → Plan Y) (m : M)
-    → KeepsTo rule E m p → ((n : M) (x : X) → E n x → KeepsTo rule F n (f x)) → KeepsTo rule F m (followed_by p f)
-keeps-followed_by rule E F (Finish x) f m first rest = rest m x first
-keeps-followed_by rule E F (Ask e next) f m first rest = (
-  first.0,
-  λ reply. keeps-followed_by rule E F (next reply) f (rule.after m e reply) (first.1 reply) rest,
-)
+-- what only looks
+looked-by_right : (r : Request) (h : History) (e : Event) → MayBeAsked None e → IsByRight r h e
+looked-by_right r h (Stamp n atime mtime ctime) may = λ sets. absurd (times-told None (sets_some atime mtime ctime) may sets)
+looked-by_right r h _ may = tt
 
-pub keeps-weaker : {M X : Type 0} (rule : Restraint M) (E F : M → X → Type 0) (p : Plan X) (m : M)
-    → KeepsTo rule E m p → ((n : M) (x : X) → E n x → F n x) → KeepsTo rule F m p
-keeps-weaker rule E F (Finish x) m first weaker = weaker m x first
-keeps-weaker rule E F (Ask e next) m first weaker = (
-  first.0,
-  λ reply. keeps-weaker rule E F (next reply) (rule.after m e reply) (first.1 reply) weaker,
-)
-
-keeps-quiet : {X : Type 0} (r : Request) (E : X → Type 0) (generations : List (ℕ × ℕ)) (p : Plan X) (m : Memory) → AsksQuiet E p → m.generations ≡ generations
-    → KeepsTo (recording r) (λ k x. (k.generations ≡ generations) × E x) m p
-keeps-quiet r E generations (Finish x) m quiet is = (is, quiet)
-keeps-quiet r E generations (Ask e next) m quiet is = (
-  quiet-by_right r m.asked e quiet.0,
-  λ reply. keeps-quiet r E generations (next reply) (with_event m e reply) (quiet.1 reply) (still m e reply quiet.0 ∙ is),
+keeps-looking : {X : Type 0} (r : Request) (E : Unit {0} → X → Type 0) (generations : List (ℕ × ℕ)) (p : Plan X) (m : Memory) → KeepsTo looking E tt p → m.generations ≡ generations
+    → KeepsTo (recording r) (λ k x. (k.generations ≡ generations) × E tt x) m p
+keeps-looking r E generations (Finish x) m looks is = (is, looks)
+keeps-looking r E generations (Ask e next) m looks is = (
+  looked-by_right r m.asked e looks.0,
+  λ reply.
+      keeps-looking r E generations (next reply) (with_event m e reply) (looks.1 reply)
+      (ap (λ o. counted_once o m.generations) (unmade None e reply refl looks.0) ∙ is),
 )
 
 -- ---- work
@@ -240,29 +209,36 @@ module _ {r : Request} where
       each m (Ok x, t) known = known
       each m (Err e, t) counts = counts
 
-  -- quiet work
-  pub leads-still : {X : Type 0} {w : Work X} (generations : List (ℕ × ℕ)) → Quiet w
+  -- work that only looks
+  leads-still : {X : Type 0} {w : Work X} (generations : List (ℕ × ℕ)) → Looks w
       → Leads r (λ m t. (m.generations ≡ generations) × Counted m t) (λ (x : X) m t. (m.generations ≡ generations) × Counted m t) w
-  leads-still {X} {w} generations quiet = record {
+  leads-still {X} {w} generations looks = record {
     at = λ m t holds.
-        keeps-weaker (recording r) (λ k q. (k.generations ≡ generations) × SameNodes t q) (Knows (λ (x : X) k u. (k.generations ≡ generations) × Counted k u)) (w t) m
-        (keeps-quiet r (SameNodes t) generations (w t) m (quiet.at t) holds.0) (each t (holds.1 ∙ holds.0));
+        keeps-weaker (recording r) (λ k q. (k.generations ≡ generations) × SameNodes t tt q) (Knows (λ (x : X) k u. (k.generations ≡ generations) × Counted k u)) (w t) m
+        (keeps-looking r (SameNodes t) generations (w t) m (looks.at t) holds.0) (each t (holds.1 ∙ holds.0));
   }
     where
-      each : (t : Server) → t.generations ≡ generations → (k : Memory) (q : Result X RequestError × Server) → (k.generations ≡ generations) × SameNodes t q
+      each : (t : Server) → t.generations ≡ generations → (k : Memory) (q : Result X RequestError × Server) → (k.generations ≡ generations) × SameNodes t tt q
           → Knows (λ (x : X) n u. (n.generations ≡ generations) × Counted n u) k q
       each t is k (Ok x, u) known = (known.0, known.1 ∙ is ∙ sym known.0)
       each t is k (Err e, u) known = known.1 ∙ is ∙ sym known.0
 
-  pub leads-quiet : {X : Type 0} {w : Work X} → Quiet w → Leads r Counted (λ (x : X) m t. Counted m t) w
-  leads-quiet quiet = record { at = λ m t counts. (leads-to (λ x k u known. known.1) (leads-still m.generations quiet)).at m t (refl, counts) }
+  pub leads-looking : {X : Type 0} {w : Work X} → Looks w → Leads r Counted (λ (x : X) m t. Counted m t) w
+  leads-looking looks = record { at = λ m t counts. (leads-to (λ x k u known. known.1) (leads-still m.generations looks)).at m t (refl, counts) }
 
-  pub leads-ask : (e : Event) → IsQuiet e → Leads r Counted (λ reply m t. IsAsked e reply [] (events m.asked) (replies_in m.asked) × Counted m t) (ask e)
+  -- a change that leaves the generations
+  pub leads-keep : (f : Server → Server) → ((t : Server) → (f t).generations ≡ t.generations) → Leads r Counted (λ kept m t. Counted m t) (keep f)
+  unfolding keep
+  leads-keep f same = record { at = λ m t counts. same t ∙ counts }
+
+  -- what makes nothing
+  pub leads-ask : (e : Event) → ((h : History) → IsByRight r h e) → ((reply : Reply) → made_by_event e reply ≡ None)
+      → Leads r Counted (λ reply m t. IsAsked e reply [] (events m.asked) (replies_in m.asked) × Counted m t) (ask e)
   unfolding ask
-  leads-ask e is = record {
+  leads-ask e by_right makes = record {
     at = λ m t counts. (
-      quiet-by_right r m.asked e is,
-      λ reply. (asked_last m.asked e reply, counts ∙ sym (still m e reply is)),
+      by_right m.asked,
+      λ reply. (asked_last m.asked e reply, counts ∙ sym (ap (λ o. counted_once o m.generations) (makes reply))),
     );
   }
 
@@ -283,10 +259,18 @@ module _ {r : Request} where
       choose None granted = leads-give reply (λ m t known. (record { last = known.0; granted = granted }, known.1))
       choose (Some refusal) refused = leads-fail _ (λ m t known. known.1)
 
-  pub leads-on : (cred : Credential) (n : ℕ) (call : Call) → makes call ≡ false
+  pub leads-on : (cred : Credential) (n : ℕ) (call : Call) → ((reply : Reply) → made_by call reply ≡ None)
       → Leads r Counted (λ reply m t. Answered (CallAt (actor_in cred n) call) reply m.asked × Counted m t) (on cred n call)
   unfolding on
-  leads-on cred n call is = leads->>= (leads-ask (CallAt (actor_in cred n) call) is) (leads-of_object _)
+  leads-on cred n call makes = leads->>= (leads-ask (CallAt (actor_in cred n) call) (λ h. tt) makes) (leads-of_object _)
+
+  pub leads-inside : (cred : Credential) (d : ℕ) (call : Call) → ((reply : Reply) → made_by call reply ≡ None) → Leads r Counted (λ reply m t. Counted m t) (inside cred d call)
+  unfolding inside
+  leads-inside cred d call makes = leads->>= (leads-ask (CallAt (actor_in cred d) call) (λ h. tt) makes) (λ reply. leads-from (λ m t known. known.1) (leads-looking (looks-unless_refused reply)))
+
+  -- one that is asked by a handle
+  pub leads-by_handle : (handle : ℕ) (call : HandleCall) → Leads r Counted (λ reply m t. Counted m t) (obtain (CallBy handle call))
+  leads-by_handle handle call = leads->>= (leads-ask (CallBy handle call) (λ h. tt) (λ reply. refl)) (λ reply. leads-from (λ m t known. known.1) (leads-looking (looks-unless_refused reply)))
 
 -- ---- requests
 
@@ -300,23 +284,12 @@ Said T m (Fails e, t) = Counted m t
 Said T m (Silence, t) = Counted m t
 
 abbrev pub TaskLeads : Request → Server → (ReplyBody → Memory → Server → Type 0) → Task → Type 0
-TaskLeads r s T (Replying w) = Leads r (Begun s) T w
-TaskLeads r s T Silent = Unit {0}
-
-pub quiet-leads : (r : Request) (s : Server) (task : Task) → QuietTask task → TaskLeads r s (λ body m t. Counted m t) task
-quiet-leads r s (Replying w) quiet = leads-from (λ m t begun. begun.1) (leads-quiet quiet)
-quiet-leads r s Silent quiet = tt
+TaskLeads r s T task = IfReplies (λ w. Leads r (Begun s) T w) task
 
 abbrev pub at_first : Server → Memory
 at_first s = record { asked = []; generations = s.generations }
 
 module _ (r : Request) (s : Server) (T : ReplyBody → Memory → Server → Type 0) where
-  told-leads : (tells : Bool) (task : Task) → TaskLeads r s T task → TaskLeads r s T (told_first tells r.now task)
-  told-leads false task leads = leads
-  told-leads true (Replying w) leads =
-      leads->>= (leads-still s.generations (quiet-tell_time r.now)) (λ told. leads)
-  told-leads true Silent leads = tt
-
   keeps-answered : (memory : Bool) (task : Task) → TaskLeads r s T task → (m : Memory) → m.generations ≡ s.generations
       → KeepsTo (recording r) (Said T) m (answered memory task s)
   keeps-answered true Silent leads m same = sym same
@@ -329,18 +302,18 @@ module _ (r : Request) (s : Server) (T : ReplyBody → Memory → Server → Typ
       each k (Ok body, t) known = known
       each k (Err e, t) counts = counts
 
-  pub keeps-request : ((nobody : Bool) (operation : Operation) → r.operation ≡ Some operation → TaskLeads r s T (plan_of (asked_of r nobody) r.value operation))
+  pub keeps-request : (operation : Operation) → r.operation ≡ Some operation → ((nobody : Bool) → TaskLeads r s T (plan_of (asked_of r nobody) r.value operation))
       → KeepsTo (recording r) (Said T) (at_first s) (request_plan r s)
   unfolding request_plan
-  keeps-request leads =
-      keeps-followed_by (recording r) (λ k x. (k.generations ≡ s.generations) × Any x) (Said T) (who_counts_in r.node r.uid r.operation s) (λ who. answered_as (is_nobody who) r s)
+  keeps-request operation is leads =
+      keeps-followed_by (recording r) (λ k who. (k.generations ≡ s.generations) × Unit {0}) (Said T) (who_counts_in r.node r.uid r.operation s) (λ who. answered_as (is_nobody who) r s)
       (at_first s)
-      (keeps-quiet r Any s.generations (who_counts_in r.node r.uid r.operation s) (at_first s) (quiet-who_counts_in r.node r.uid r.operation s) refl)
-      (λ k who same. keeps-answered r.memory (asked_for (asked_of r (is_nobody who)) r.value r.operation) (asks (is_nobody who) r.operation refl) k same.0)
+      (keeps-looking r Whatever s.generations (who_counts_in r.node r.uid r.operation s) (at_first s) (looks-who_counts_in r.node r.uid r.operation s) refl)
+      (λ k who same. keeps-answered r.memory (asked_for (asked_of r (is_nobody who)) r.value r.operation) (asks (is_nobody who)) k same.0)
     where
-      asks : (nobody : Bool) (o : Option Operation) → r.operation ≡ o → TaskLeads r s T (asked_for (asked_of r nobody) r.value o)
-      asks nobody None is = leads-fail _ (λ m t begun. begun.1)
-      asks nobody (Some operation) is = told-leads (says_change operation) _ (leads nobody operation is)
+      asks : (nobody : Bool) → TaskLeads r s T (asked_for (asked_of r nobody) r.value r.operation)
+      asks nobody = subst (λ o. TaskLeads r s T (asked_for (asked_of r nobody) r.value o)) (sym is)
+          (replies-told (λ w. Leads r (Begun s) T w) r.now (λ w leads. leads->>= (leads-still s.generations (looks-tell_time r.now)) (λ told. leads)) (says_change operation) _ (leads nobody))
 
 -- ---- at the end
 
@@ -358,10 +331,3 @@ module _ (r : Request) where
   generations_are m [] replies = refl
   generations_are m (e ∷ es) [] = refl
   generations_are m (e ∷ es) (reply ∷ replies) = generations_are (with_event m e reply) es replies
-
-  pub may_at : (m : Memory) (es after : List Event) (replies rest : List Reply) (e : Event) (reply : Reply) → length replies ≡ length es
-      → MayAskAll (recording r) m (es ++ e ∷ after) (replies ++ reply ∷ rest) → IsByRight r (after_all (recording r) m es replies).asked e
-  may_at m [] after [] rest e reply same may = may.0
-  may_at m [] after (other ∷ replies) rest e reply same may = absurd (omega (arith, same))
-  may_at m (f ∷ es) after [] rest e reply same may = absurd (omega (arith, same))
-  may_at m (f ∷ es) after (other ∷ replies) rest e reply same may = may_at (with_event m f other) es after replies rest e reply (omega (arith, same)) may.1

@@ -2,7 +2,7 @@
 --     needs, numbered, plain, in-directory, searched        pieces that ask nothing
 --     plan_for        a request's plan by its operation
 --     searches        a look-up: the judgement, and what follows it
---     WasRefused, explained        why the server finds nothing, or is denied
+--     refused-before, explained        why the server finds nothing, or is denied
 use Rattle.std.specs.Prelude.{◌≡◌, ℕ, Bool, true, false, ◌||◌, not, ◌==◌, List, [], ◌∷◌, ◌++◌, codes, bytes_eq, Option, None, Some, Ok, Err, IsTrue, if◌then◌else◌}
 use Rattle.std.proofs.Common.{refl, sym, subst}
 use Rattle.posix_acl.specs.Entries.{perms_of}
@@ -27,7 +27,7 @@ use Rattle.fuse_plans.specs.declared.request_error.RequestError.{RequestError}
 use Rattle.fuse_plans.specs.declared.request_error.RequestError.TheVariants.{Refuses, Lacks}
 use Rattle.fuse_plans.specs.declared.request_error.OtherErrno.TheVariants.{ESTALE}
 use Rattle.fuse_plans.specs.RequestErrors.{failed, is_for}
-use Rattle.fuse_plans.specs.Plans.{Plan, followed_by, IsAsked, at_once}
+use Rattle.fuse_plans.specs.Plans.{Plan, followed_by, IsRunOf, IsAsked, at_once}
 use Rattle.fuse_plans.specs.Works.{Work, give, fail, kept, ◌>>=◌, ask, attempt, needed, give_unless, refusal_in, status_of_reply, replied_status, stamps_of_reply, unexpected}
 use Rattle.fuse_plans.specs.Callers.{server_credential, actor_in, the_number, inside, look_inside}
 use Rattle.fuse_plans.specs.Times.{told_stamps_if, told_stamps}
@@ -35,9 +35,9 @@ use Rattle.fuse_plans.specs.NamePlans.{plain_name, directory_for, or_absent, sea
 use Rattle.fuse_plans.specs.Requests.{Request, asked_of}
 use Rattle.fuse_plans.specs.Nobody.{is_judged, or_user, who_counts_in, is_nobody}
 use Rattle.fuse_plans.specs.Serving.{Replying, asked_for, answered}
-use Rattle.fuse_plans.specs.Laws.{IsByServer}
+use Rattle.fuse_plans.specs.Laws.{WasRefused}
 use Rattle.fuse_plans.proofs.PlanLaws.{followed_by-followed_by}
-use Rattle.fuse_plans.proofs.EachRun.{EachRun, each-followed_by, Ends, refused-reply}
+use Rattle.fuse_plans.proofs.EachRun.{EachRun, each-followed_by, asked-before, Ends, refused-reply}
 
 -- ---- pieces that ask nothing
 
@@ -105,14 +105,16 @@ searches Q r name s each =
 
 -- ---- what the server finds
 
--- the server was refused so
-pub record WasRefused (errno : Errno) (es : List Event) (replies : List Reply) : Type 0 where
-  pub event : Event
-  pub is_by : IsByServer event
-  pub refusal : Refusal
-  pub after : List Event
-  pub asked : IsAsked event (Refused refusal) after es replies
-  pub for_it : IsTrue (is_for errno (Refuses refusal))
+pub refused-before : {X : Type 0} {errno : Errno} {fs : List Event} {rest : List Reply} (p : Plan X) (es : List Event) (replies : List Reply) (x : X) → IsRunOf p es replies x
+    → WasRefused errno fs rest → WasRefused errno (es ++ fs) (replies ++ rest)
+refused-before p es replies x runs was = record {
+  event = was.event;
+  is_by = was.is_by;
+  refusal = was.refusal;
+  after = was.after;
+  asked = asked-before p es replies x runs was.asked;
+  for_it = was.for_it;
+}
 
 abbrev pub is_absent : ReplyBody → Bool
 is_absent (Absent valid) = true

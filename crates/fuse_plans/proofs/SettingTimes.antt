@@ -7,7 +7,7 @@ use Rattle.posix_acl.specs.Entries.{perms_of}
 use Rattle.fs_cred.specs.Credentials.{Credential}
 use Rattle.fs_cred.specs.Ownership.{counts_as_owner}
 use Rattle.fs_cred.specs.declared.errno.Errno.TheVariants.{EPERM}
-use Rattle.fs_model.specs.declared.call.Call.TheVariants.{Lstat, Access}
+use Rattle.fs_model.specs.declared.call.Call.TheVariants.{Lstat, Access, Chown}
 use Rattle.fs_model.specs.declared.event.Event.TheVariants.{CallAt, Stamp}
 use Rattle.fs_model.specs.declared.reply.Reply.{Reply}
 use Rattle.fs_model.specs.declared.reply.Reply.TheVariants.{Shown}
@@ -16,20 +16,20 @@ use Rattle.fuse_protocol.specs.declared.operation.AttrChanges.{AttrChanges}
 use Rattle.fuse_protocol.specs.declared.operation.NewTime.{NewTime}
 use Rattle.fuse_protocol.specs.declared.operation.NewTime.TheVariants.{Now, At}
 use Rattle.fuse_protocol.specs.declared.reply.Time.{Time}
+use Rattle.fuse_state.specs.Servers.{Server, with_change_time}
 use Rattle.fuse_state.specs.Stamps.{stamp_of}
 use Rattle.fuse_plans.specs.declared.request_error.RequestError.{RequestError}
 use Rattle.fuse_plans.specs.declared.request_error.RequestError.TheVariants.{Lacks}
 use Rattle.fuse_plans.specs.declared.request_error.OtherErrno.TheVariants.{EOPNOTSUPP}
 use Rattle.fuse_plans.specs.RequestErrors.{failed}
 use Rattle.fuse_plans.specs.Requests.{Request, asked_of}
-use Rattle.fuse_plans.specs.Works.{fail, kept, ◌>>=◌, attempt, ask, status_of_reply}
+use Rattle.fuse_plans.specs.Works.{Work, fail, kept, keep, ◌>>=◌, attempt, ask, status_of_reply}
 use Rattle.fuse_plans.specs.Callers.{server_credential, actor_in, on, look}
-use Rattle.fuse_plans.specs.AttributePlans.{is_now, or_not_permitted, may_set_times, stamp_set, set_stamps_if, set_stamps, set_times, tell_times, set_attributes}
+use Rattle.fuse_plans.specs.AttributePlans.{set_size, set_mode, change_attributes, is_now, or_not_permitted, may_set_times, stamp_set, set_stamps_if, set_stamps, set_times, tell_times, set_attributes}
 use Rattle.fuse_plans.specs.FilePlans.{when}
 use Rattle.fuse_plans.specs.TimeLaws.{MaySet, owns, may_write, MaySetTimes}
-use Rattle.fuse_plans.proofs.QuietWorks.{quiet->>=, quiet-kept, quiet-keep, quiet-the_number, quiet-told_stamps, quiet-needed, quiet-give}
-use Rattle.fuse_plans.proofs.QuietRequests.{quiet-change_attributes}
-use Rattle.fuse_plans.proofs.Recordings.{History, events, replies_in, WasAsked, asked_lasts, Answered, Counted, Known, Leads, leads-give, leads-fail, leads->>=, leads-from, leads-to, leads-where, leads-too, leads-attempt, leads-needed, leads-quiet, leads-on}
+use Rattle.fuse_plans.proofs.Looks.{looks->>=, looks-kept, looks-the_number, looks-told_stamps, looks-needed, looks-give}
+use Rattle.fuse_plans.proofs.Recordings.{History, events, replies_in, WasAsked, asked_lasts, Memory, Answered, Counted, Known, Leads, leads-give, leads-fail, leads->>=, leads-from, leads-to, leads-where, leads-too, leads-attempt, leads-needed, leads-looking, leads-keep, leads-on, leads-by_handle}
 
 -- ---- what is shown
 
@@ -43,7 +43,7 @@ shows _ status is = absurd (let no : None ≡ Some status = is in cc)
 leads-look : {r : Request} (n : ℕ) → Leads r Counted (λ status m t. IsShown n status m.asked × Counted m t) (look n)
 unfolding look
 leads-look {r} n =
-    leads->>= (leads-on server_credential n (Lstat []) refl) (λ reply.
+    leads->>= (leads-on server_credential n (Lstat []) (λ reply. refl)) (λ reply.
     leads-to (λ status m t known. (was reply status m.asked known.0 known.1.0, known.1.1)) (leads-needed (λ m t known. known.1) _ (status_of_reply reply)))
   where
     was : (reply : Reply) (status : Status) (h : History) → status_of_reply reply ≡ Some status → Answered (CallAt (actor_in server_credential n) (Lstat [])) reply h → IsShown n status h
@@ -108,7 +108,7 @@ module _ {r : Request} (c : AttrChanges) where
       choose : (a b : Bool) → is_now c.atime ≡ a → is_now c.mtime ≡ b
           → Leads r Counted (λ done m t. May cred n c false m.asked × Counted m t)
           (if not (a && b) then fail (failed EPERM) else (attempt (on cred n (Access [] (perms_of 2))) >>= or_not_permitted))
-      choose true true atime mtime = leads->>= (leads-attempt (leads-on cred n _ refl)) (leads-or_not_permitted cred n atime mtime)
+      choose true true atime mtime = leads->>= (leads-attempt (leads-on cred n _ (λ reply. refl))) (leads-or_not_permitted cred n atime mtime)
       choose true false atime mtime = leads-fail _ (λ m t counts. counts)
       choose false b atime mtime = leads-fail _ (λ m t counts. counts)
 
@@ -120,9 +120,9 @@ module _ {r : Request} (c : AttrChanges) where
 
   leads-set_stamps_if : (keeps : Bool) (cred : Credential) (n : ℕ) (status : Status) → r.cred ≡ Some cred
       → Leads r (λ m t. Seen cred n c status m.asked × Counted m t) (λ done m t. Counted m t) (set_stamps_if keeps r.now n c)
-  leads-set_stamps_if false cred n status is = leads-from (λ m t known. known.1) (leads-quiet (quiet-keep _ (λ t. refl)))
+  leads-set_stamps_if false cred n status is = leads-from (λ m t known. known.1) (leads-keep _ (λ t. refl))
   leads-set_stamps_if true cred n status is =
-      leads->>= (asks_stamps cred n status is) (λ reply. leads-quiet (quiet->>= (quiet-needed _ _) (λ stamps. quiet-give tt)))
+      leads->>= (asks_stamps cred n status is) (λ reply. leads-looking (looks->>= (looks-needed _ _) (λ stamps. looks-give tt)))
 
   leads-set_stamps : (cred : Credential) (n : ℕ) (status : Status) → r.cred ≡ Some cred
       → Leads r (λ m t. Seen cred n c status m.asked × Counted m t) (λ done m t. Counted m t) (set_stamps r.now n c)
@@ -143,11 +143,34 @@ module _ {r : Request} (c : AttrChanges) where
   leads-tell_times : (cred : Credential) (n : ℕ) → r.cred ≡ Some cred → Leads r Counted (λ body m t. Counted m t) (tell_times r.now cred n c)
   leads-tell_times cred n is =
       leads->>= (leads-look n) (λ status.
-      leads->>= (leads-set_times cred n status is) (λ done. leads-quiet (quiet->>= (quiet-told_stamps status.ino) (λ stamps. quiet-kept _))))
+      leads->>= (leads-set_times cred n status is) (λ done. leads-looking (looks->>= (looks-told_stamps status.ino) (λ stamps. looks-kept _))))
+
+  -- all but times
+  leads-done : {T : Reply → Memory → Server → Type 0} {w : Work Reply} (f : Server → Server) → ((reply : Reply) (m : Memory) (t : Server) → T reply m t → Counted m t)
+      → ((t : Server) → (f t).generations ≡ t.generations) → Leads r Counted T w → Leads r Counted (λ done m t. Counted m t) (w >>= (λ _. keep f))
+  leads-done f counts same first = leads->>= first (λ reply. leads-from (λ m t known. counts reply m t known) (leads-keep f same))
+
+  leads-set_size : (cred : Credential) (n : ℕ) (handle size : Option ℕ) → Leads r Counted (λ done m t. Counted m t) (set_size r.now cred n handle size)
+  leads-set_size cred n handle None = leads-give tt (λ m t counts. counts)
+  leads-set_size cred n None (Some size) = leads-done _ (λ reply m t known. known.1) (λ t. refl) (leads-on cred n _ (λ reply. refl))
+  leads-set_size cred n (Some handle) (Some size) = leads-done _ (λ reply m t known. known) (λ t. refl) (leads-by_handle handle _)
+
+  leads-set_owners : (cred : Credential) (n : ℕ) (b : Bool)
+      → Leads r Counted (λ done m t. Counted m t) (when b (on cred n (Chown [] c.uid c.gid) >>= (λ _. keep (with_change_time r.now n))))
+  leads-set_owners cred n true = leads-done _ (λ reply m t known. known.1) (λ t. refl) (leads-on cred n _ (λ reply. refl))
+  leads-set_owners cred n false = leads-give tt (λ m t counts. counts)
+
+  leads-set_mode : (cred : Credential) (n : ℕ) (mode : Option ℕ) → Leads r Counted (λ done m t. Counted m t) (set_mode r.now cred n mode)
+  leads-set_mode cred n None = leads-give tt (λ m t counts. counts)
+  leads-set_mode cred n (Some mode) = leads-done _ (λ reply m t known. known.1) (λ t. refl) (leads-on cred n _ (λ reply. refl))
+
+  leads-change_attributes : (cred : Credential) (n : ℕ) → Leads r Counted (λ done m t. Counted m t) (change_attributes r.now cred n c)
+  leads-change_attributes cred n =
+      leads->>= (leads-set_size cred n c.handle c.size) (λ sized. leads->>= (leads-set_owners cred n _) (λ owned. leads-set_mode cred n c.mode))
 
   pub leads-set_attributes : (nobody : Bool) → Leads r Counted (λ body m t. Counted m t) (set_attributes (asked_of r nobody) c)
   leads-set_attributes nobody =
-      leads->>= (leads-quiet (quiet-the_number r.node)) (λ n.
+      leads->>= (leads-looking (looks-the_number r.node)) (λ n.
       leads->>= (leads-needed (λ m t counts. counts) _ r.cred) (λ cred.
       leads-where (r.cred ≡ Some cred) (λ is.
-      leads->>= (leads-quiet (quiet-change_attributes r.now cred n c)) (λ done. leads-tell_times cred n is))))
+      leads->>= (leads-change_attributes cred n) (λ done. leads-tell_times cred n is))))

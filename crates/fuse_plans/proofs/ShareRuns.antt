@@ -16,9 +16,9 @@ use Rattle.fuse_plans.specs.Works.{kept, keep, give, ◌>>=◌}
 use Rattle.fuse_plans.specs.DirectoryPlans.{take_directory, take_directory_if}
 use Rattle.fuse_plans.specs.ShareLaws.{RequestsKeepShares, HasShare, as_further, as_root, DirectoriesAreFound}
 use Rattle.fuse_plans.specs.Serving.{keep_due_in, request_plan, served_plan, requests_plan}
-use Rattle.fuse_plans.proofs.PlanLaws.{run-parts}
+use Rattle.fuse_plans.proofs.PlanLaws.{run-parts, run-finished}
 use Rattle.fuse_plans.proofs.RequestConducts.{runs_behave}
-use Rattle.fuse_plans.proofs.DueFirst.{ends_as, kept_within}
+use Rattle.fuse_plans.proofs.DueFirst.{kept_within}
 
 -- ---- requests
 
@@ -34,11 +34,11 @@ served_keeps r s es replies q runs within =
 pub requests_keep_shares : RequestsKeepShares
 unfolding requests_plan
 requests_keep_shares [] s t es replies responses runs within =
-    subst WithinShares (sym (ap (λ q. q.1) (ends_as ([], s) (responses, t) es replies runs))) within
+    subst WithinShares (sym (ap (λ q. q.1) (run-finished ([], s) (responses, t) es replies runs))) within
 requests_keep_shares (r ∷ rs) s t es replies responses runs within =
     let parts = run-parts (served_plan r s) _ es replies (responses, t) runs in
     let rest = run-parts (requests_plan rs parts.middle.1) _ parts.later_events parts.later_replies (responses, t) parts.later in
-    let ends = ends_as (parts.middle.0 ∷ rest.middle.0, rest.middle.1) (responses, t) rest.later_events rest.later_replies rest.later in
+    let ends = run-finished (parts.middle.0 ∷ rest.middle.0, rest.middle.1) (responses, t) rest.later_events rest.later_replies rest.later in
     subst WithinShares (sym (ap (λ q. q.1) ends))
     (requests_keep_shares rs parts.middle.1 rest.middle.1 rest.first_events rest.first_replies rest.middle.0 rest.first
     (served_keeps r s parts.first_events parts.first_replies parts.middle parts.first within))

@@ -1,26 +1,27 @@
 -- For how long each answer tells a name, and that only a look-up tells that there is none.
 --     TellsSo        work whose answer is of some kind, whatever is replied
---     TellsFor, for-tell_named, ..        a name is told for so many seconds
+--     TellsFor, for-tell_named, ..        a name is told for so many seconds, and its node leads to what was shown
 --     plain-plan        requests that tell no name
 --     there-plan        requests that name what they make
 --     for-unjudged        look-ups of which who asks counts
+--     leads-plan        the node that is told of a name leads to the object
 --     SaysSo, all-planned, all-unjudged        the same of whole requests
-use Rattle.std.specs.Prelude.{◌≡◌, ℕ, Bool, true, false, List, Option, None, Some, Result, Ok, Err, if◌then◌else◌, bit_and}
-use Rattle.std.proofs.Common.{refl, sym, subst}
+use Rattle.std.specs.Prelude.{◌≡◌, ℕ, ◌<◌, ◌^◌, Bool, true, false, List, Option, None, Some, unwrap_or, Result, Ok, Err, if◌then◌else◌, bit_and}
+use Rattle.std.proofs.Common.{refl, sym, ap, subst}
 use Rattle.posix_acl.specs.declared.entry.Perms.{Perms}
 use Rattle.posix_acl.specs.AccessList.{AccessList}
 use Rattle.posix_acl.specs.Entries.{perms_of}
 use Rattle.fs_cred.specs.Credentials.{Credential}
 use Rattle.fs_model.specs.declared.call.AclType.{AclType}
 use Rattle.fs_model.specs.declared.reply.Status.{Status}
-use Rattle.fuse_protocol.specs.declared.operation.Extent.{Extent}
-use Rattle.fuse_protocol.specs.declared.operation.Offer.{Offer}
 use Rattle.fuse_protocol.specs.declared.operation.Operation.{Operation}
 use Rattle.fuse_protocol.specs.declared.operation.Operation.TheVariants.{Lookup, Forget, GetAttr, SetAttr, ReadLink, SymLink, MkNod, MkDir, Unlink, RmDir, Rename, Link, Open, Read, Write, StatFs, Release, FSync, SetXAttr, GetXAttr, ListXAttr, RemoveXAttr, Init, OpenDir, ReadDir, ReadDirPlus, ReleaseDir, FSyncDir, Access, Create, Interrupt, Destroy, BatchForget, SyncFs, Unknown}
 use Rattle.fuse_protocol.specs.declared.reply.Time.{Time}
-use Rattle.fuse_state.specs.Servers.{Server}
+use Rattle.fuse_state.specs.Servers.{Server, number_of_node}
+use Rattle.fuse_state.proofs.StateLaws.{lead_back}
 use Rattle.fuse_plans.specs.declared.mode.Mode.{Mode}
 use Rattle.fuse_plans.specs.declared.request.Asked.{Asked}
+use Rattle.fuse_plans.specs.declared.reply.Attributes.{Attributes}
 use Rattle.fuse_plans.specs.declared.reply.ReplyBody.{ReplyBody}
 use Rattle.fuse_plans.specs.declared.reply.Response.{Response}
 use Rattle.fuse_plans.specs.declared.reply.Response.TheVariants.{Silence, Says, Fails}
@@ -36,27 +37,28 @@ use Rattle.fuse_plans.specs.DirectoryPlans.{take_directory, take_directory_if, r
 use Rattle.fuse_plans.specs.AclPlans.{sized, set_acl}
 use Rattle.fuse_plans.specs.Requests.{Request, asked_of}
 use Rattle.fuse_plans.specs.Nobody.{is_granted, or_process, or_user, who_counts_in, is_nobody}
-use Rattle.fuse_plans.specs.Serving.{Task, Replying, Silent, begin, count_space, end, plan_of, told_first, asked_for, answered, response_of}
-use Rattle.fuse_plans.specs.Laws.{names_an_object}
+use Rattle.fuse_plans.specs.Serving.{Task, Replying, Silent, begin, count_space, end, plan_of, asked_for, answered, response_of}
+use Rattle.fuse_plans.specs.Laws.{told_entry, names_an_object}
 use Rattle.fuse_plans.specs.KeepingLaws.{name_valid_in}
 use Rattle.fuse_plans.proofs.AllEnds.{AllEnd, all-weaker, all-followed_by}
+use Rattle.fuse_plans.proofs.PlanLaws.{IfReplies, replies-told}
 use Rattle.fuse_plans.proofs.Searches.{is_absent, plan_for, search_then}
 
 -- ---- answers
 
-abbrev pub EndsSo : (ReplyBody → Type 0) → Result ReplyBody RequestError × Server → Type 0
-EndsSo P (Ok body, t) = P body
+abbrev pub EndsSo : (ReplyBody → Server → Type 0) → Result ReplyBody RequestError × Server → Type 0
+EndsSo P (Ok body, t) = P body t
 EndsSo P (Err e, t) = Unit {0}
 
--- where it ends well, P holds of what it tells
-pub record TellsSo (P : ReplyBody → Type 0) (w : Work ReplyBody) : Type 0 where
+-- where it ends well, P holds of what it tells and of the server then
+pub record TellsSo (P : ReplyBody → Server → Type 0) (w : Work ReplyBody) : Type 0 where
   pub at : (s : Server) → AllEnd (EndsSo P) (w s)
 
 all-anyhow : {X : Type 0} (p : Plan X) → AllEnd (λ x. Unit {0}) p
 all-anyhow (Finish x) = tt
 all-anyhow (Ask e next) = λ reply. all-anyhow (next reply)
 
-module _ {P : ReplyBody → Type 0} where
+module _ {P : ReplyBody → Server → Type 0} where
   pub so-after : {X : Type 0} (w : Work X) {f : X → Work ReplyBody} → ((x : X) → TellsSo P (f x)) → TellsSo P (w >>= f)
   unfolding ◌>>=◌
   so-after {X} w {f} rest = record { at = λ s. all-followed_by (λ r. Unit {0}) (EndsSo P) (w s) (goes_on f) (all-anyhow (w s)) after }
@@ -65,13 +67,13 @@ module _ {P : ReplyBody → Type 0} where
       after (Ok x, t) any = (rest x).at t
       after (Err e, t) any = tt
 
-  so-give : (body : ReplyBody) → P body → TellsSo P (give body)
+  so-give : (body : ReplyBody) → ((s : Server) → P body s) → TellsSo P (give body)
   unfolding give
-  so-give body is = record { at = λ s. is }
+  so-give body is = record { at = is }
 
-  so-kept : (f : Server → ReplyBody) → ((s : Server) → P (f s)) → TellsSo P (kept f)
+  so-kept : (f : Server → ReplyBody) → ((s : Server) → P (f s) s) → TellsSo P (kept f)
   unfolding kept
-  so-kept f is = record { at = λ s. is s }
+  so-kept f is = record { at = is }
 
   so-fail : (e : RequestError) → TellsSo P (fail e)
   unfolding fail
@@ -81,17 +83,37 @@ module _ {P : ReplyBody → Type 0} where
   so-if true w v first second = first
   so-if false w v first second = second
 
+  pub so-weaker : {Q : ReplyBody → Server → Type 0} {w : Work ReplyBody} → ((body : ReplyBody) (t : Server) → P body t → Q body t) → TellsSo P w → TellsSo Q w
+  so-weaker {Q} {w} weaker so = record { at = λ s. all-weaker (EndsSo P) (EndsSo Q) (w s) (so.at s) ends }
+    where
+      ends : (r : Result ReplyBody RequestError × Server) → EndsSo P r → EndsSo Q r
+      ends (Ok body, t) is = weaker body t is
+      ends (Err e, t) any = tt
+
 -- a name is told for so many seconds
-abbrev pub IsFor : ℕ → ReplyBody → Type 0
-IsFor valid body = (name_valid_in body ≡ valid) × (is_absent body ≡ false)
+abbrev pub IsFor : ℕ → ReplyBody → Server → Type 0
+IsFor valid body t = (name_valid_in body ≡ valid) × (is_absent body ≡ false)
+
+-- its node leads to what was shown
+abbrev pub Leads : ReplyBody → Server → Type 0
+Leads body t = (node : ℕ) (shown : Attributes) → told_entry body ≡ Some (node, shown) → shown.status.ino < 2 ^ 32 → number_of_node t node ≡ Some shown.status.ino
 
 abbrev pub TellsFor : ℕ → Work ReplyBody → Type 0
-TellsFor valid w = TellsSo (IsFor valid) w
+TellsFor valid w = TellsSo (λ body t. IsFor valid body t × Leads body t) w
+
+-- the entry is that which was told
+entry-is : (t : Server) (told_node node : ℕ) (told_shown shown : Attributes) → ◌≡◌ {A = Option (ℕ × Attributes)} (Some (told_node, told_shown)) (Some (node, shown))
+    → shown.status.ino < 2 ^ 32 → (told_shown.status.ino < 2 ^ 32 → number_of_node t told_node ≡ Some told_shown.status.ino)
+    → number_of_node t node ≡ Some shown.status.ino
+entry-is t told_node node told_shown shown is lt leads =
+    subst (λ (e : ℕ × Attributes). e.1.status.ino < 2 ^ 32 → number_of_node t e.0 ≡ Some e.1.status.ino)
+    (ap (λ (o : Option (ℕ × Attributes)). unwrap_or o (node, shown)) is) leads lt
 
 -- ---- new names
 
 for-tell_named : (valid n : ℕ) → TellsFor valid (tell_named valid n)
-for-tell_named valid n = so-after _ (λ status. so-after _ (λ stamps. so-kept _ (λ s. (refl, refl))))
+for-tell_named valid n =
+    so-after _ (λ status. so-after _ (λ stamps. so-kept _ (λ t. ((refl, refl), λ node shown is lt. entry-is t _ node _ shown is lt (lead_back t status.ino)))))
 
 pub for-tell_made : (now : Time) (valid d n : ℕ) → TellsFor valid (tell_made now valid d n)
 unfolding tell_made
@@ -101,129 +123,107 @@ pub for-create_by : (now : Time) (valid : ℕ) (cred : Credential) (umask d : �
     → TellsFor valid (create_by now valid cred umask d name mode flags file_mode)
 unfolding tell_created
 for-create_by now valid cred umask d name mode flags file_mode =
-    so-after _ (λ opened. so-after _ (λ handle. so-after _ (λ told. so-after _ (λ seen. so-kept _ (λ s. (refl, refl))))))
+    so-after _ (λ opened. so-after _ (λ handle. so-after _ (λ told. so-after _ (λ seen.
+    so-kept _ (λ t. ((refl, refl), λ node shown is lt. entry-is t _ node _ shown is lt (lead_back t seen.0.ino)))))))
 
 -- ---- look-ups
 
-unjudged : (seen : Result Status RequestError) → TellsFor 0 (found_or_absent false seen)
+unjudged : (seen : Result Status RequestError) → TellsSo (IsFor 0) (found_or_absent false seen)
 unjudged (Ok status) = so-after _ (λ stamps. so-kept _ (λ s. (refl, refl)))
 unjudged (Err e) = so-after _ (λ settings. so-fail e)
 
-for-unjudged : (r : Request) (name : List ℕ) → TellsFor 0 (find_name (asked_of r false) name)
+for-unjudged : (r : Request) (name : List ℕ) → TellsSo (IsFor 0) (find_name (asked_of r false) name)
 for-unjudged r name = so-after _ (λ d. so-after _ (λ cred. so-after _ unjudged))
+
+leads-found_or_absent : (nobody : Bool) (seen : Result Status RequestError) → TellsSo Leads (found_or_absent nobody seen)
+leads-found_or_absent nobody (Ok status) =
+    so-after _ (λ stamps. so-kept _ (λ t node shown is lt. entry-is t _ node _ shown is lt (lead_back t status.ino)))
+leads-found_or_absent nobody (Err e) = so-after _ (λ settings. so-if _ _ _ (so-give _ (λ t node shown is lt. absurd (cc))) (so-fail e))
+
+leads-find_name : (r : Asked) (name : List ℕ) → TellsSo Leads (find_name r name)
+leads-find_name r name = so-after _ (λ d. so-after _ (λ cred. so-after _ (leads-found_or_absent r.needs_nobody)))
 
 -- ---- requests that tell no name
 
 -- work that tells so
-abbrev pub IfTellsSo : (ReplyBody → Type 0) → Task → Type 0
-IfTellsSo P Silent = Unit {0}
-IfTellsSo P (Replying w) = TellsSo P w
+abbrev pub IfTellsSo : (ReplyBody → Server → Type 0) → Task → Type 0
+IfTellsSo P task = IfReplies (TellsSo P) task
 
-for-sized : (size has : ℕ) (body : ReplyBody) → IsFor 0 body → TellsFor 0 (sized size has body)
-for-sized size has body is = so-if _ _ _ (so-give _ (refl, refl)) (so-if _ _ _ (so-fail _) (so-give body is))
+pub if-weaker : {P Q : ReplyBody → Server → Type 0} → ((body : ReplyBody) (t : Server) → P body t → Q body t) → (task : Task) → IfTellsSo P task → IfTellsSo Q task
+if-weaker weaker Silent so = tt
+if-weaker weaker (Replying w) so = so-weaker weaker so
 
-for-take_directory_if : (uid node : ℕ) (may : Bool) → TellsFor 0 (take_directory_if uid node may)
+for-sized : (size has : ℕ) (body : ReplyBody) → ((s : Server) → IsFor 0 body s) → TellsSo (IsFor 0) (sized size has body)
+for-sized size has body is = so-if _ _ _ (so-give _ (λ s. (refl, refl))) (so-if _ _ _ (so-fail _) (so-give body is))
+
+for-take_directory_if : (uid node : ℕ) (may : Bool) → TellsSo (IsFor 0) (take_directory_if uid node may)
 for-take_directory_if uid node false = so-fail _
 for-take_directory_if uid node true = so-after _ (λ handle. so-after _ (λ opened. so-kept _ (λ s. (refl, refl))))
 
-for-take_directory : (uid node : ℕ) → TellsFor 0 (take_directory uid node)
-unfolding take_directory
-for-take_directory uid node = so-after _ (for-take_directory_if uid node)
-
-for-read_directory : (node : ℕ) (extent : Extent) → TellsFor 0 (read_directory node extent)
-unfolding read_directory
-for-read_directory node extent = so-after _ (λ names. so-give _ (refl, refl))
-
-for-read_directory_plus : (nobody : Bool) (node : ℕ) (extent : Extent) → TellsFor 0 (read_directory_plus nobody node extent)
-unfolding read_directory_plus
-for-read_directory_plus nobody node extent = so-after _ (λ place. so-after _ (λ names. so-after _ (λ found. so-give _ (refl, refl))))
-
-for-close_directory : (handle : ℕ) → TellsFor 0 (close_directory handle)
-unfolding close_directory
-for-close_directory handle = so-after _ (λ gone. so-give _ (refl, refl))
-
-for-sync_all : TellsFor 0 sync_all
-unfolding sync_all
-for-sync_all = so-after _ (λ done. so-give _ (refl, refl))
-
-for-end : TellsFor 0 end
-unfolding end
-for-end = so-after _ (λ ended. for-sync_all)
-
-for-count_space : TellsFor 0 count_space
-unfolding count_space
-for-count_space = so-after _ (λ reply. so-after _ (λ free. so-kept _ (λ s. (refl, refl))))
-
-for-begin : (offer : Offer) → TellsFor 0 (begin offer)
-unfolding begin
-for-begin offer = so-if _ _ _ (so-fail _) (so-if _ _ _ (so-give _ (refl, refl)) (so-after _ (λ offered. so-kept _ (λ s. (refl, refl)))))
-
-for-set_acl : (r : Asked) (which : AclType) (acl : Option AccessList) → TellsFor 0 (set_acl r which acl)
+for-set_acl : (r : Asked) (which : AclType) (acl : Option AccessList) → TellsSo (IsFor 0) (set_acl r which acl)
 for-set_acl r which acl =
-    so-after _ (λ n. so-after _ (λ cred. so-after _ (λ list. so-after _ (λ set. so-after _ (λ may. so-after _ (λ changed. so-give _ (refl, refl)))))))
+    so-after _ (λ n. so-after _ (λ cred. so-after _ (λ list. so-after _ (λ set. so-after _ (λ may. so-after _ (λ changed. so-give _ (λ s. (refl, refl))))))))
 
-for-tell_attributes : (status : Status) → TellsFor 0 (tell_attributes status)
+for-tell_attributes : (status : Status) → TellsSo (IsFor 0) (tell_attributes status)
 for-tell_attributes status = so-after _ (λ stamps. so-kept _ (λ s. (refl, refl)))
 
 pub plain-plan : (r : Asked) (value : Option (Option AccessList)) (operation : Operation) → names_an_object operation ≡ false
     → IfTellsSo (IsFor 0) (plan_of r value operation)
+unfolding take_directory read_directory read_directory_plus close_directory sync_all end count_space begin
 plain-plan r value (Lookup name) is = absurd (cc)
 plain-plan r value (Forget count) is = tt
 plain-plan r value GetAttr is = so-after _ (λ n. so-after _ (λ status. for-tell_attributes status))
 plain-plan r value (SetAttr changes) is =
     so-after _ (λ n. so-after _ (λ cred. so-after _ (λ changed. so-after _ (λ status. so-after _ (λ timed. for-tell_attributes status)))))
-plain-plan r value ReadLink is = so-after _ (λ n. so-after _ (λ reply. so-after _ (λ target. so-give _ (refl, refl))))
+plain-plan r value ReadLink is = so-after _ (λ n. so-after _ (λ reply. so-after _ (λ target. so-give _ (λ s. (refl, refl)))))
 plain-plan r value (SymLink name target) is = absurd (cc)
 plain-plan r value (MkNod name mode umask) is = absurd (cc)
 plain-plan r value (MkDir name mode umask) is = absurd (cc)
 plain-plan r value (Unlink name) is =
-    so-after _ (λ d. so-after _ (λ cred. so-after _ (λ gone. so-after _ (λ done. so-after _ (λ removed. so-give _ (refl, refl))))))
+    so-after _ (λ d. so-after _ (λ cred. so-after _ (λ gone. so-after _ (λ done. so-after _ (λ removed. so-give _ (λ s. (refl, refl)))))))
 plain-plan r value (RmDir name) is =
-    so-after _ (λ d. so-after _ (λ cred. so-after _ (λ gone. so-after _ (λ done. so-after _ (λ removed. so-give _ (refl, refl))))))
+    so-after _ (λ d. so-after _ (λ cred. so-after _ (λ gone. so-after _ (λ done. so-after _ (λ removed. so-give _ (λ s. (refl, refl)))))))
 plain-plan r value (Rename name new_directory new_name flags) is =
     so-after _ (λ may. so-after _ (λ d. so-after _ (λ new. so-after _ (λ cred. so-after _ (λ free.
-    so-after _ (λ object. so-after _ (λ replaced. so-after _ (λ done. so-after _ (λ moved. so-give _ (refl, refl))))))))))
+    so-after _ (λ object. so-after _ (λ replaced. so-after _ (λ done. so-after _ (λ moved. so-give _ (λ s. (refl, refl)))))))))))
 plain-plan r value (Link node name) is =
-    so-after _ (λ d. so-after _ (λ n. so-after _ (λ cred. so-after _ (λ done. so-after _ (λ linked. for-tell_named 0 n)))))
+    so-after _ (λ d. so-after _ (λ n. so-after _ (λ cred. so-after _ (λ done. so-after _ (λ linked. so-weaker (λ body t is. is.0) (for-tell_named 0 n))))))
 plain-plan r value (Open flags) is =
     so-after _ (λ n. so-after _ (λ mode. so-after _ (λ cred. so-after _ (λ asked. so-after _ (λ reply. so-after _ (λ opened. so-after _ (λ touched. so-kept _ (λ s. (refl, refl)))))))))
-plain-plan r value (Read extent) is = so-after _ (λ reply. so-after _ (λ bytes. so-give _ (refl, refl)))
-plain-plan r value (Write handle offset bytes) is = so-after _ (λ within. so-after _ (λ count. so-after _ (λ touched. so-give _ (refl, refl))))
-plain-plan r value StatFs is = for-count_space
-plain-plan r value (Release handle) is = so-after _ (λ closed. so-give _ (refl, refl))
-plain-plan r value (FSync handle) is = for-sync_all
+plain-plan r value (Read extent) is = so-after _ (λ reply. so-after _ (λ bytes. so-give _ (λ s. (refl, refl))))
+plain-plan r value (Write handle offset bytes) is = so-after _ (λ within. so-after _ (λ count. so-after _ (λ touched. so-give _ (λ s. (refl, refl)))))
+plain-plan r value StatFs is = so-after _ (λ reply. so-after _ (λ free. so-kept _ (λ s. (refl, refl))))
+plain-plan r value (Release handle) is = so-after _ (λ closed. so-give _ (λ s. (refl, refl)))
+plain-plan r value (FSync handle) is = so-after _ (λ done. so-give _ (λ s. (refl, refl)))
 plain-plan r value (SetXAttr name bytes) is = so-after _ (λ which. so-after _ (λ acl. for-set_acl r which acl))
-plain-plan r value (GetXAttr name size) is = so-after _ (λ which. so-after _ (λ n. so-after _ (λ found. so-after _ (λ acl. for-sized size _ _ (refl, refl)))))
-plain-plan r value (ListXAttr size) is = so-after _ (λ n. so-after _ (λ names. for-sized size _ _ (refl, refl)))
+plain-plan r value (GetXAttr name size) is = so-after _ (λ which. so-after _ (λ n. so-after _ (λ found. so-after _ (λ acl. for-sized size _ _ (λ s. (refl, refl))))))
+plain-plan r value (ListXAttr size) is = so-after _ (λ n. so-after _ (λ names. for-sized size _ _ (λ s. (refl, refl))))
 plain-plan r value (RemoveXAttr name) is = so-after _ (λ which. for-set_acl r which None)
-plain-plan r value (Init offer) is = for-begin offer
-plain-plan r value OpenDir is = so-after _ (λ n. so-after _ (λ cred. so-after _ (λ read. so-after _ (λ may. for-take_directory cred.uid r.node))))
-plain-plan r value (ReadDir extent) is = for-read_directory r.node extent
-plain-plan r value (ReadDirPlus extent) is = for-read_directory_plus r.needs_nobody r.node extent
-plain-plan r value (ReleaseDir handle) is = for-close_directory handle
-plain-plan r value FSyncDir is = for-sync_all
-plain-plan r value (Access mask) is = so-after _ (λ n. so-after _ (λ cred. so-after _ (λ may. so-give _ (refl, refl))))
+plain-plan r value (Init offer) is =
+    so-if _ _ _ (so-fail _) (so-if _ _ _ (so-give _ (λ s. (refl, refl))) (so-after _ (λ offered. so-kept _ (λ s. (refl, refl)))))
+plain-plan r value OpenDir is = so-after _ (λ n. so-after _ (λ cred. so-after _ (λ read. so-after _ (λ may. so-after _ (for-take_directory_if cred.uid r.node)))))
+plain-plan r value (ReadDir extent) is = so-after _ (λ names. so-give _ (λ s. (refl, refl)))
+plain-plan r value (ReadDirPlus extent) is = so-after _ (λ place. so-after _ (λ names. so-after _ (λ found. so-give _ (λ s. (refl, refl)))))
+plain-plan r value (ReleaseDir handle) is = so-after _ (λ gone. so-give _ (λ s. (refl, refl)))
+plain-plan r value FSyncDir is = so-after _ (λ done. so-give _ (λ s. (refl, refl)))
+plain-plan r value (Access mask) is = so-after _ (λ n. so-after _ (λ cred. so-after _ (λ may. so-give _ (λ s. (refl, refl)))))
 plain-plan r value (Create name flags mode umask) is = absurd (cc)
 plain-plan r value Interrupt is = tt
-plain-plan r value Destroy is = for-end
+plain-plan r value Destroy is = so-after _ (λ ended. so-after _ (λ done. so-give _ (λ s. (refl, refl))))
 plain-plan r value (BatchForget batch) is = tt
-plain-plan r value SyncFs is = for-sync_all
+plain-plan r value SyncFs is = so-after _ (λ done. so-give _ (λ s. (refl, refl)))
 plain-plan r value Unknown is = so-fail _
 
 -- ---- requests that name what they make
 
-abbrev pub IsThere : ReplyBody → Type 0
-IsThere body = is_absent body ≡ false
+abbrev pub IsThere : ReplyBody → Server → Type 0
+IsThere body t = is_absent body ≡ false
 
-so-there : {valid : ℕ} {w : Work ReplyBody} → TellsFor valid w → TellsSo IsThere w
-so-there {valid} {w} so = record { at = λ s. all-weaker (EndsSo (IsFor valid)) (EndsSo IsThere) (w s) (so.at s) ends }
-  where
-    ends : (r : Result ReplyBody RequestError × Server) → EndsSo (IsFor valid) r → EndsSo IsThere r
-    ends (Ok body, t) is = is.1
-    ends (Err e, t) any = tt
+so-there : {valid : ℕ} {w : Work ReplyBody} → TellsFor valid w → TellsSo (λ body t. IsThere body t × Leads body t) w
+so-there so = so-weaker (λ body t is. (is.0.1, is.1)) so
 
 pub there-plan : (r : Asked) (value : Option (Option AccessList)) (operation : Operation) → names_an_object operation ≡ true
-    → ((name : List ℕ) → operation ≡ Lookup name → ⊥) → IfTellsSo IsThere (plan_of r value operation)
+    → ((name : List ℕ) → operation ≡ Lookup name → ⊥) → IfTellsSo (λ body t. IsThere body t × Leads body t) (plan_of r value operation)
 there-plan r value (Lookup name) is other = absurd (other name refl)
 there-plan r value (SymLink name target) is other =
     so-after _ (λ d. so-after _ (λ valid. so-after _ (λ cred. so-after _ (λ reply. so-after _ (λ n. so-there (for-tell_made r.now valid d n))))))
@@ -237,20 +237,19 @@ there-plan r value (Create name flags mode umask) is other =
     so-there (for-create_by r.now valid cred (bit_and umask 0o777) d name way flags.0 mode))))))
 there-plan r value _ is other = absurd (cc)
 
+-- what is told of a name leads to the object
+pub leads-plan : (r : Asked) (value : Option (Option AccessList)) (operation : Operation) → names_an_object operation ≡ true → IfTellsSo Leads (plan_of r value operation)
+leads-plan r value (Lookup name) is = leads-find_name r name
+leads-plan r value operation is = if-weaker {P = λ body t. IsThere body t × Leads body t} {Q = Leads} (λ body t is. is.1) (plan_of r value operation) (there-plan r value operation is (λ name same. cc))
+
 -- ---- whole requests
 
-abbrev pub SaysSo : (ReplyBody → Type 0) → Response × Server → Type 0
+abbrev pub SaysSo : (ReplyBody → Server → Type 0) → Response × Server → Type 0
 SaysSo P (Silence, t) = Unit {0}
-SaysSo P (Says body, t) = P body
+SaysSo P (Says body, t) = P body t
 SaysSo P (Fails e, t) = Unit {0}
 
--- also where the machine is told the time first
-so-told_first : (P : ReplyBody → Type 0) (says : Bool) (now : Time) (task : Task) → IfTellsSo P task → IfTellsSo P (told_first says now task)
-so-told_first P false now task so = so
-so-told_first P true now (Replying w) so = so-after _ (λ told. so)
-so-told_first P true now Silent so = so
-
-all-answered : (P : ReplyBody → Type 0) (memory : Bool) (task : Task) (s : Server) → IfTellsSo P task → AllEnd (SaysSo P) (answered memory task s)
+all-answered : (P : ReplyBody → Server → Type 0) (memory : Bool) (task : Task) (s : Server) → IfTellsSo P task → AllEnd (SaysSo P) (answered memory task s)
 all-answered P true Silent s so = tt
 all-answered P false Silent s so = tt
 all-answered P false (Replying w) s so = tt
@@ -260,12 +259,12 @@ all-answered P true (Replying w) s so = all-followed_by (EndsSo P) (SaysSo P) (w
     says (Ok body, t) is = is
     says (Err e, t) any = tt
 
-pub all-planned : (P : ReplyBody → Type 0) (r : Request) (operation : Operation) (s : Server)
+pub all-planned : (P : ReplyBody → Server → Type 0) (r : Request) (operation : Operation) (s : Server)
     → ((nobody : Bool) → IfTellsSo P (plan_of (asked_of r nobody) r.value operation)) → AllEnd (SaysSo P) (plan_for r (Some operation) s)
 all-planned P r operation s so =
     all-followed_by (λ who. Unit {0}) (SaysSo P) (who_counts_in r.node r.uid (Some operation) s)
     (λ who. answered r.memory (asked_for (asked_of r (is_nobody who)) r.value (Some operation)) s) (all-anyhow (who_counts_in r.node r.uid (Some operation) s))
-    (λ who any. all-answered P r.memory _ s (so-told_first P (says_change operation) r.now _ (so (is_nobody who))))
+    (λ who any. all-answered P r.memory _ s (replies-told (TellsSo P) r.now (λ w so. so-after _ (λ told. so)) (says_change operation) _ (so (is_nobody who))))
 
 -- where who asks counts
 all-somebody : (want : Perms) (node uid : ℕ) (s : Server) → AllEnd (λ who. is_nobody who ≡ false) (or_user false (Some want) node uid s)
@@ -283,4 +282,4 @@ all-unjudged r name s =
     all-followed_by (λ who. is_nobody who ≡ false) (SaysSo (IsFor 0)) (or_user false (Some (perms_of 1)) r.node r.uid s)
     (λ who. answered r.memory (Replying (find_name (asked_of r (is_nobody who)) name)) s) (all-somebody (perms_of 1) r.node r.uid s)
     (λ who counts. all-answered (IsFor 0) r.memory (Replying (find_name (asked_of r (is_nobody who)) name)) s
-    (subst (λ b. TellsFor 0 (find_name (asked_of r b) name)) (sym counts) (for-unjudged r name)))
+    (subst (λ b. TellsSo (IsFor 0) (find_name (asked_of r b) name)) (sym counts) (for-unjudged r name)))

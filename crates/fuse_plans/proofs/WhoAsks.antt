@@ -1,14 +1,14 @@
 -- Where who asks was found not to count, the plan is the same whoever asks.
 --     nobody-needed        where it is found that nobody counts, nobody is needed
 --     who_asks_counts_only_where_needed
-use Rattle.std.specs.Prelude.{◌≡◌, ℕ, Bool, true, false, List, [], ◌∷◌, Option, None, Some, Result, Ok, Err}
+use Rattle.std.specs.Prelude.{◌≡◌, ℕ, Bool, true, false, List, Option, None, Some, Result, Ok, Err}
 use Rattle.std.proofs.Common.{refl, ap}
 use Rattle.posix_acl.specs.declared.entry.Perms.{Perms}
 use Rattle.fs_cred.specs.Credentials.{Credential}
 use Rattle.fs_model.specs.declared.event.Event.{Event}
 use Rattle.fs_model.specs.declared.reply.Reply.{Reply}
 use Rattle.fuse_protocol.specs.declared.operation.Operation.{Operation}
-use Rattle.fuse_protocol.specs.declared.operation.Operation.TheVariants.{Lookup, Forget, GetAttr, SetAttr, ReadLink, SymLink, MkNod, MkDir, Unlink, RmDir, Rename, Link, Open, Read, Write, StatFs, Release, FSync, SetXAttr, GetXAttr, ListXAttr, RemoveXAttr, Init, OpenDir, ReadDir, ReadDirPlus, ReleaseDir, FSyncDir, Access, Create, Interrupt, Destroy, BatchForget, SyncFs, Unknown}
+use Rattle.fuse_protocol.specs.declared.operation.Operation.TheVariants.{SetAttr, SymLink, MkNod, MkDir, Unlink, RmDir, Rename, Link, Open, SetXAttr, RemoveXAttr, OpenDir, Access, Create}
 use Rattle.fuse_state.specs.Servers.{Server}
 use Rattle.fuse_plans.specs.declared.request.WhoCounts.TheVariants.{Nobody, User, Process}
 use Rattle.fuse_plans.specs.declared.request_error.RequestError.{RequestError}
@@ -18,13 +18,7 @@ use Rattle.fuse_plans.specs.Nobody.{needs_nobody, asks_alone, is_granted, or_pro
 use Rattle.fuse_plans.specs.Alterations.{says_change}
 use Rattle.fuse_plans.specs.Serving.{plan_of, told_first, asked_for, answered}
 use Rattle.fuse_plans.specs.Laws.{WhoAsksCountsOnlyWhereNeeded}
-use Rattle.fuse_plans.proofs.PlanLaws.{run-parts}
-
--- nothing is asked, and that is the end
-run-finished : {X : Type 0} (x y : X) (es : List Event) (replies : List Reply) → IsRunOf (Finish x) es replies y → y ≡ x
-run-finished x y [] [] runs = runs
-run-finished x y [] (reply ∷ replies) runs = elim runs [ ]
-run-finished x y (e ∷ es) replies runs = elim runs [ ]
+use Rattle.fuse_plans.proofs.PlanLaws.{run-parts, run-finished}
 
 -- ---- nobody
 
@@ -62,11 +56,7 @@ module _ (r : Request) (cred : Option Credential) (s : Server) where
   not-needed es replies runs = absurd (let no : true ≡ false = run-finished false true es replies runs in cc)
 
   alike : (operation : Operation) (es : List Event) (replies : List Reply) → IsRunOf (needs_nobody r.node operation s) es replies true → Alike operation
-  alike (Lookup name) es replies runs = refl
-  alike (Forget count) es replies runs = refl
-  alike GetAttr es replies runs = refl
   alike (SetAttr changes) es replies runs = not-needed es replies runs
-  alike ReadLink es replies runs = refl
   alike (SymLink name target) es replies runs = not-needed es replies runs
   alike (MkNod name mode umask) es replies runs = not-needed es replies runs
   alike (MkDir name mode umask) es replies runs = not-needed es replies runs
@@ -75,28 +65,12 @@ module _ (r : Request) (cred : Option Credential) (s : Server) where
   alike (Rename name new_directory new_name flags) es replies runs = not-needed es replies runs
   alike (Link old_node name) es replies runs = not-needed es replies runs
   alike (Open flags) es replies runs = not-needed es replies runs
-  alike (Read extent) es replies runs = refl
-  alike (Write handle offset bytes) es replies runs = refl
-  alike StatFs es replies runs = refl
-  alike (Release handle) es replies runs = refl
-  alike (FSync handle) es replies runs = refl
   alike (SetXAttr name bytes) es replies runs = not-needed es replies runs
-  alike (GetXAttr name size) es replies runs = refl
-  alike (ListXAttr size) es replies runs = refl
   alike (RemoveXAttr name) es replies runs = not-needed es replies runs
-  alike (Init offer) es replies runs = refl
   alike OpenDir es replies runs = not-needed es replies runs
-  alike (ReadDir extent) es replies runs = refl
-  alike (ReadDirPlus extent) es replies runs = refl
-  alike (ReleaseDir handle) es replies runs = refl
-  alike FSyncDir es replies runs = refl
   alike (Access mask) es replies runs = not-needed es replies runs
   alike (Create name flags mode umask) es replies runs = not-needed es replies runs
-  alike Interrupt es replies runs = refl
-  alike Destroy es replies runs = refl
-  alike (BatchForget batch) es replies runs = refl
-  alike SyncFs es replies runs = refl
-  alike Unknown es replies runs = refl
+  alike operation es replies runs = refl
 
   alike-asked : (o : Option Operation) (es : List Event) (replies : List Reply) → IsRunOf (who_counts_in r.node r.uid o s) es replies Nobody
       → asked_for (asked_of (record r { cred = cred }) true) r.value o ≡ asked_for (asked_of r true) r.value o

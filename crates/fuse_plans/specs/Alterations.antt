@@ -40,8 +40,10 @@ pub data Alteration : Type 0 where
   sets_times : Alteration
   -- the list that decides on access says the mode too
   sets_list : AclType → Alteration
-  -- by a new object, or by one more name of another
+  -- of a new object
   adds_name : List ℕ → Alteration
+  -- one more of an object that has one
+  links_name : List ℕ → Alteration
   takes_name : List ℕ → Alteration
   -- the second may have led to another object
   moves_name : List ℕ → List ℕ → Alteration
@@ -65,7 +67,7 @@ alterations_by (Chown path owner group) = where_so (is_some owner) sets_owner ++
 alterations_by (SetAcl path which acl) = sets_list which ∷ []
 alterations_by (Mkdir path mode) = adds_name path ∷ []
 alterations_by (Rmdir path) = takes_name path ∷ []
-alterations_by (LinkCall old new) = adds_name new ∷ []
+alterations_by (LinkCall old new) = links_name new ∷ []
 alterations_by (Symlink target path) = adds_name path ∷ []
 alterations_by (UnlinkCall path) = takes_name path ∷ []
 alterations_by (RenameCall old new) = moves_name old new ∷ []
@@ -96,7 +98,7 @@ IsToldBy (Create name flags mode umask) (resizes size) = IsTrue (is_trunc flags.
 IsToldBy (MkNod name mode umask) (adds_name path) = path ≡ name
 IsToldBy (MkDir name mode umask) (adds_name path) = path ≡ name
 IsToldBy (SymLink name target) (adds_name path) = path ≡ name
-IsToldBy (Link node name) (adds_name path) = path ≡ name
+IsToldBy (Link node name) (links_name path) = path ≡ name
 IsToldBy (Unlink name) (takes_name path) = path ≡ name
 IsToldBy (RmDir name) (takes_name path) = path ≡ name
 IsToldBy (Rename name new_directory new_name flags) (moves_name old new) = (old ≡ name) × (new ≡ new_name)

@@ -16,7 +16,7 @@ use Rattle.fs_model.specs.States.{State}
 use Rattle.fs_model.specs.Steps.{Step}
 use Rattle.fs_model.specs.TreeChanges.{Change, Same, Rewrite, Make, AddName, TakeName, MoveName, changed, swept, touches, touched}
 use Rattle.fs_model.specs.Trees.{Tree}
-use Rattle.fuse_plans.specs.Alterations.{Alteration, resizes, resizes_open, writes_open, writes_some, sets_mode, sets_owner, sets_group, sets_times, sets_list, adds_name, takes_name, moves_name, alterations_in}
+use Rattle.fuse_plans.specs.Alterations.{Alteration, resizes, resizes_open, writes_open, writes_some, sets_mode, sets_owner, sets_group, sets_times, sets_list, adds_name, links_name, takes_name, moves_name, alterations_in}
 
 -- ---- of what an alteration is
 
@@ -29,13 +29,25 @@ pub record Aspects : Type 0 where
   pub owner : Bool
   pub group : Bool
   pub times : Bool
+  -- a new object gets a name, and one that has a name one more
   pub added : Bool
+  pub linked : Bool
   pub taken : Bool
   pub moved : Bool
 
 abbrev pub no_aspect : Aspects
-no_aspect =
-    record { bytes = false; mode = false; default = false; owner = false; group = false; times = false; added = false; taken = false; moved = false }
+no_aspect = record {
+  bytes = false;
+  mode = false;
+  default = false;
+  owner = false;
+  group = false;
+  times = false;
+  added = false;
+  linked = false;
+  taken = false;
+  moved = false;
+}
 
 abbrev pub aspects_of : Alteration → Aspects
 aspects_of (resizes size) = record no_aspect { bytes = true }
@@ -49,6 +61,7 @@ aspects_of sets_times = record no_aspect { times = true }
 aspects_of (sets_list Access) = record no_aspect { mode = true }
 aspects_of (sets_list Default) = record no_aspect { default = true }
 aspects_of (adds_name path) = record no_aspect { added = true }
+aspects_of (links_name path) = record no_aspect { linked = true }
 aspects_of (takes_name path) = record no_aspect { taken = true }
 aspects_of (moves_name old new) = record no_aspect { moved = true }
 
@@ -75,7 +88,7 @@ abbrev pub AltersOnly : List Alteration → Tree → Change → Type 0
 AltersOnly alterations t Same = Unit {0}
 AltersOnly alterations t (Rewrite touch n node) = KeepsUnsaid alterations (the_node t n) node
 AltersOnly alterations t (Make directory name n node) = IsTrue (says_one (λ x. x.added) alterations)
-AltersOnly alterations t (AddName directory name n) = IsTrue (says_one (λ x. x.added) alterations)
+AltersOnly alterations t (AddName directory name n) = IsTrue (says_one (λ x. x.linked) alterations)
 AltersOnly alterations t (TakeName directory name) = IsTrue (says_one (λ x. x.taken) alterations)
 AltersOnly alterations t (MoveName directory name to_directory to_name) = IsTrue (says_one (λ x. x.moved) alterations)
 

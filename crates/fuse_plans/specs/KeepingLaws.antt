@@ -2,27 +2,23 @@
 --     name_valid_in        for how many seconds a name is told
 --     MayKeepName, NamesAreKeptWhereJudged        a name, or that nothing has it
 --     IsMissing, OnlyMissingNamesAreAbsent        that nothing has it
-use Rattle.std.specs.Prelude.{◌≡◌, ℕ, ◌<◌, true, false, List, ◌++◌, Option, Some, Ok, IsTrue}
+use Rattle.std.specs.Prelude.{◌≡◌, ℕ, ◌<◌, true, false, List, ◌++◌, Some, Ok, IsTrue}
 use Rattle.fs_cred.specs.declared.errno.Errno.TheVariants.{ENOENT}
-use Rattle.fs_cred.specs.declared.refusal.Refusal.{Refusal}
 use Rattle.fs_model.specs.declared.event.Event.{Event}
 use Rattle.fs_model.specs.declared.reply.Reply.{Reply}
-use Rattle.fs_model.specs.declared.reply.Reply.TheVariants.{Refused}
 use Rattle.fuse_protocol.specs.declared.operation.Operation.TheVariants.{Lookup}
 use Rattle.fuse_state.specs.Servers.{Server, number_of_node}
 use Rattle.fuse_plans.specs.declared.reply.ReplyBody.{ReplyBody}
 use Rattle.fuse_plans.specs.declared.reply.ReplyBody.TheVariants.{Found, Absent, Created}
 use Rattle.fuse_plans.specs.declared.reply.Response.TheVariants.{Says}
-use Rattle.fuse_plans.specs.declared.request_error.RequestError.TheVariants.{Refuses}
-use Rattle.fuse_plans.specs.RequestErrors.{is_for}
-use Rattle.fuse_plans.specs.Plans.{IsRunOf, IsAsked}
+use Rattle.fuse_plans.specs.Plans.{IsRunOf}
 use Rattle.fuse_plans.specs.Works.{◌>>◌}
 use Rattle.fuse_plans.specs.Requests.{Request}
 use Rattle.fuse_plans.specs.Masks.{list_hides}
 use Rattle.fuse_plans.specs.Nobody.{is_judged}
 use Rattle.fuse_plans.specs.Times.{tell_time}
 use Rattle.fuse_plans.specs.Serving.{request_plan}
-use Rattle.fuse_plans.specs.Laws.{IsByServer}
+use Rattle.fuse_plans.specs.Laws.{WasRefused}
 
 -- for so many seconds the kernel may keep a name, or that nothing has it; 0 where none is told
 abbrev pub name_valid_in : ReplyBody → ℕ
@@ -48,13 +44,8 @@ NamesAreKeptWhereJudged =
     → IsRunOf (request_plan r s) es replies (Says body, t) → IsTrue s.settings.posix_acl × MayKeepName r s es replies
 
 -- The server was refused, since nothing has the name.
-pub record IsMissing (es : List Event) (replies : List Reply) : Type 0 where
-  pub event : Event
-  pub is_by : IsByServer event
-  pub refusal : Refusal
-  pub after : List Event
-  pub asked : IsAsked event (Refused refusal) after es replies
-  pub for_absence : IsTrue (is_for ENOENT (Refuses refusal))
+abbrev pub IsMissing : List Event → List Reply → Type 0
+IsMissing es replies = WasRefused ENOENT es replies
 
 -- Whatever was replied: it is told that nothing has a name only where the server finds nothing.
 abbrev pub OnlyMissingNamesAreAbsent : Type 0

@@ -11,11 +11,13 @@
 --     MakingsAreCounted        each number counts how often it was given to a new object
 --     WhoAsksCountsOnlyWhereNeeded        where nobody is needed a request is the same whoever asks
 --     UsersCountAlone, UsersAreGranted        where a user alone counts it was shown that it is granted what is asked, and it is
+--     WasRefused        the server itself was refused
 --     JudgedLookupsAreGranted        where the kernel has judged, a look-up is refused in one kind of directory only
 use Rattle.std.specs.Prelude.{◌≡◌, ◌≢◌, ℕ, ◌+◌, ◌%◌, ◌^◌, ◌<◌, Bool, true, false, if◌then◌else◌, List, [], ◌∷◌, All, Option, None, Some, is_some, unwrap_or, IsTrue, IsFalse}
 use Rattle.std.specs.Ordering.{nat_cmp}
 use Rattle.posix_acl.specs.AccessList.{AccessList}
 use Rattle.posix_acl.specs.declared.entry.Perms.{Perms}
+use Rattle.fs_cred.specs.declared.errno.Errno.{Errno}
 use Rattle.fs_cred.specs.declared.errno.Errno.TheVariants.{EACCES}
 use Rattle.fs_cred.specs.declared.refusal.Refusal.{Refusal}
 use Rattle.fs_cred.specs.Credentials.{Credential}
@@ -35,7 +37,7 @@ use Rattle.fs_model.specs.declared.reply.Reply.TheVariants.{Shown, Acl, Made, Op
 use Rattle.fs_model.specs.declared.reply.Status.{Status}
 use Rattle.fs_model.specs.States.{State}
 use Rattle.fs_model.specs.Steps.{Step}
-use Rattle.fuse_plans.specs.Plans.{IsRunOf, IsAsked, KeepsTo, MayAskAll, after_all}
+use Rattle.fuse_plans.specs.Plans.{IsRunOf, IsAsked, KeepsTo, MayAskAll}
 use Rattle.fuse_plans.specs.declared.request.WhoCounts.TheVariants.{Nobody, User}
 use Rattle.fuse_plans.specs.Requests.{Request}
 use Rattle.fuse_protocol.specs.declared.flags.OpenFlags.{OpenFlags}
@@ -248,6 +250,15 @@ abbrev pub IsByServer : Event → Type 0
 IsByServer (CallAt actor call) = actor.cred ≡ server_credential
 IsByServer _ = ⊥
 
+-- the server was refused so
+pub record WasRefused (errno : Errno) (es : List Event) (replies : List Reply) : Type 0 where
+  pub event : Event
+  pub is_by : IsByServer event
+  pub refusal : Refusal
+  pub after : List Event
+  pub asked : IsAsked event (Refused refusal) after es replies
+  pub for_it : IsTrue (is_for errno (Refuses refusal))
+
 -- Why a look-up is refused all the same: the server was shown a directory whose access list has the mask `---` while others may search,
 -- or the machine refused the server itself.
 pub data MayBeRefused (es : List Event) (replies : List Reply) : Type 0 where
@@ -255,8 +266,7 @@ pub data MayBeRefused (es : List Event) (replies : List Reply) : Type 0 where
       → IsAsked (CallAt (actor_in server_credential n) (Lstat [])) (Shown status) after es replies → IsTrue (may_hide status.mode)
       → IsAsked (CallAt (actor_in server_credential n) (GetAcl [] AccessAcl)) (Acl (Some acl)) acl_after es replies → IsTrue (hides (Some acl))
       → MayBeRefused es replies
-  server_refused : (e : Event) (refusal : Refusal) (after : List Event) → IsByServer e → IsAsked e (Refused refusal) after es replies
-      → IsTrue (is_for EACCES (Refuses refusal)) → MayBeRefused es replies
+  server_refused : WasRefused EACCES es replies → MayBeRefused es replies
 
 -- Whatever was replied: where the kernel judges before it asks, no look-up is answered EACCES for who asks, but in such a directory.
 abbrev pub JudgedLookupsAreGranted : Type 0

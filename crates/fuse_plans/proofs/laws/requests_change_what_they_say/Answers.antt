@@ -1,6 +1,6 @@
-use Rattle.fuse_plans.proofs.AlterRequests.{requests_change_what_they_say, runs_change_what_requests_say}
-use Rattle.fuse_plans.proofs.AlterTimes.{others_change_nothing, others_keep_times}
 use Rattle.fuse_plans.proofs.laws.requests_change_what_they_say.Goals as goal
+use Rattle.fuse_plans.proofs.RequestConducts.{requests_change_what_they_say, runs_change_what_requests_say, others_keep_times}
+use Rattle.fuse_plans.proofs.Said.{others_change_nothing}
 
 pub returns : goal.returns
 returns c = record {
