@@ -41,7 +41,7 @@ use Rattle.fuse_plans.specs.Laws.{IsReplyTo, FailuresChangeNothing}
 use Rattle.fuse_plans.proofs.AllEnds.{AllEnd, all-followed_by, all-run}
 use Rattle.fuse_plans.proofs.PlanLaws.{Whatever, IfReplies, replies-told}
 use Rattle.fuse_plans.proofs.Said.{changes_none}
-use Rattle.fuse_plans.proofs.Looks.{looking, SameNodes, Looks, looks-needed, looks-tell_time, looks-the_number, looks-directory_for, looks-number_named, looks-may_move, looks-nothing_to_replace, looks-ask_first, looks-acl_set, looks-or_not_for_files, looks-who_counts_in}
+use Rattle.fuse_plans.proofs.Looks.{looking, Looks, looks-needed, looks-tell_time, looks-the_number, looks-directory_for, looks-number_named, looks-may_move, looks-nothing_to_replace, looks-ask_first, looks-acl_set, looks-or_not_for_files, looks-who_counts_in}
 
 -- ---- plans
 
@@ -126,7 +126,7 @@ sure-kept f g = record { at = λ s stopped. stopped }
 
 quiet->>= : {X Y : Type 0} {w : Work X} {f : X → Work Y} → Looks w → ((x : X) → Clean (f x)) → Clean (w >>= f)
 unfolding ◌>>=◌
-quiet->>= {X} {Y} {w} {f} quiet rest = record { at = λ s. spares-quiet (SameNodes s) IsFailure (w s) (goes_on f) (quiet.at s) next }
+quiet->>= {X} {Y} {w} {f} quiet rest = record { at = λ s. spares-quiet Whatever IsFailure (w s) (goes_on f) (quiet.at s) next }
   where
     next : (r : Result X RequestError × Server) → SparesFailures IsFailure (goes_on f r)
     next (Ok x, t) = (rest x).at t

@@ -2,13 +2,13 @@
 --     run-later, told-later, granted-later, ..        what may be asked may be asked later too
 --     WasAsked, WasGranted        an event with its reply
 --     IsOpened, About        what was opened for the request; an object that it is about, or was told of
---     does-ask, does-obtain, does-on, does-inside        one event
+--     do-later, does-ask, does-obtain, does-on, does-inside        one event, which makes nothing
 --     looks-at        the server may look at such an object
 --     does-look, does-list_of, does-list_hides, does-told_stamps        what the server looks at
 --     IsFor, IsOwn, gives-own, gives-number, gives-caller        nodes and who asks
 use Rattle.std.specs.Prelude.{◌≡◌, ℕ, Bool, true, false, List, [], Option, None, Some, Result, Ok, Err, IsTrue, if◌then◌else◌}
 use Rattle.std.specs.List.{Contains}
-use Rattle.std.proofs.Common.{refl, sym, subst, ◌∙◌}
+use Rattle.std.proofs.Common.{refl, sym, ap, subst, ◌∙◌}
 use Rattle.posix_acl.specs.Entries.{perms_of}
 use Rattle.fs_cred.specs.Credentials.{Credential}
 use Rattle.fs_cred.specs.declared.refusal.Refusal.{Refusal}
@@ -22,7 +22,7 @@ use Rattle.fs_model.specs.declared.event.Event.TheVariants.{CallAt, CallBy, Stam
 use Rattle.fs_model.specs.declared.event.HandleCall.{HandleCall}
 use Rattle.fs_model.specs.declared.event.HandleCall.TheVariants as by_handle
 use Rattle.fs_model.specs.declared.reply.Reply.{Reply}
-use Rattle.fs_model.specs.declared.reply.Reply.TheVariants.{Opened, Made}
+use Rattle.fs_model.specs.declared.reply.Reply.TheVariants.{Shown, Opened}
 use Rattle.fuse_protocol.specs.declared.reply.Time.{Time}
 use Rattle.fuse_state.specs.Servers.{Server, number_of_node}
 use Rattle.fuse_state.specs.Stamps.{stamp_of}
@@ -31,14 +31,16 @@ use Rattle.fuse_plans.specs.declared.request_error.RequestError.{RequestError}
 use Rattle.fuse_plans.specs.declared.request_error.RequestError.TheVariants.{Lacks}
 use Rattle.fuse_plans.specs.declared.request_error.OtherErrno.TheVariants.{ESTALE}
 use Rattle.fuse_plans.specs.declared.request.Asked.{Asked}
-use Rattle.fuse_plans.specs.Works.{Work, give, fail, kept, ◌>>=◌, ask, needed, refusal_in, give_unless, obtain, or_closed, replied_opened, replied_number}
+use Rattle.fuse_plans.specs.Works.{Work, give, fail, kept, ◌>>=◌, ask, needed, refusal_in, give_unless, obtain, or_closed, replied_status, replied_opened}
 use Rattle.fuse_plans.specs.Callers.{server_credential, actor_in, who_asks, inside, look_inside, of_object, on, look, the_number}
 use Rattle.fuse_plans.specs.Times.{tell_time, told_stamps}
 use Rattle.fuse_plans.specs.Masks.{list_of, acl_of, may_hide, hides, list_hides}
 use Rattle.fuse_plans.specs.Acts.{Subject, AskedBefore, IsObject, of_node, IsToldOf, path_of, Concerns, on_object, on_told, on_name, on_new_name, moves, links, lists}
 use Rattle.fuse_plans.specs.Alterations.{alterations_by, AreTold}
 use Rattle.fuse_plans.specs.Conduct.{Rights, only_looks, MayRun, MayCall, as_who_asks, as_server, to_run, MayCallBy, given, opened_here, asks, MayAsk}
-use Rattle.fuse_plans.proofs.Conducts.{MayDo, doing, Extends, has-last, extends-more, Still, still-number, Fits, LeftTo, DoesTo, Does, gives, does-give, does-fail, does-kept, does-needed, then->>=, does->>=, forget}
+use Rattle.fuse_plans.proofs.Said.{said-so}
+use Rattle.fuse_plans.proofs.Roles.{Role, rights_in, Extends, has-last, IsShown, MayDo, may-do, ByRight, right-later, doing}
+use Rattle.fuse_plans.proofs.Conducts.{Unmade, Nodes, still, Fits, fits-unmade, LeftTo, DoesTo, Does, gives, does-give, does-fail, does-kept, does-needed, then->>=, does->>=, forget}
 
 -- ---- what may be asked later too
 
@@ -105,171 +107,173 @@ pub opened-told : {past : AskedBefore} {handle n : ℕ} → IsOpened past handle
 opened-told {past} {handle} {n} opened = record { event = opened.event; reply = Opened handle n; was_asked = opened.was; tells = refl }
 
 -- what was opened may be listed and closed, where the request gives no handle
-pub may-close : {rights : Rights} {past : AskedBefore} {handle n : ℕ} → rights.handle ≡ None → IsOpened past handle n → MayDo rights past (CallBy handle by_handle.Close)
-may-close {n = n} alone opened = (opened_here alone opened.event n opened.was refl, tt)
+pub may-close : {rights : Role} {past : AskedBefore} {handle n : ℕ} → rights.handle ≡ None → IsOpened past handle n → MayDo rights past (CallBy handle by_handle.Close)
+may-close {n = n} alone opened = may-do (opened_here alone opened.event n opened.was refl) tt
 
-pub may-list : {rights : Rights} {past : AskedBefore} {handle n : ℕ} → rights.handle ≡ None → IsOpened past handle n → MayDo rights past (CallBy handle by_handle.List)
-may-list {n = n} alone opened = (opened_here alone opened.event n opened.was refl, tt)
+pub may-list : {rights : Role} {past : AskedBefore} {handle n : ℕ} → rights.handle ≡ None → IsOpened past handle n → MayDo rights past (CallBy handle by_handle.List)
+may-list {n = n} alone opened = may-do (opened_here alone opened.event n opened.was refl) tt
 
 -- ---- objects
 
 -- what the request is about, or was told of
-pub data About (rights : Rights) (past : AskedBefore) (n : ℕ) : Type 0 where
+pub data About (rights : Role) (past : AskedBefore) (n : ℕ) : Type 0 where
   an_object : IsObject rights.subject n → About rights past n
   was_told : IsToldOf past n → About rights past n
 
-pub about-later : {rights : Rights} {old new : AskedBefore} {n : ℕ} → Extends old new → About rights old n → About rights new n
+pub about-later : {rights : Role} {old new : AskedBefore} {n : ℕ} → Extends old new → About rights old n → About rights new n
 about-later more (an_object object) = an_object object
 about-later more (was_told told) = was_told (told-later more told)
 
 -- a call by an actor in one place acts on the object there
-pub concerns-about : {rights : Rights} {past : AskedBefore} {n : ℕ} (cred : Credential) (call : Call) → path_of call ≡ Some [] → About rights past n
+pub concerns-about : {rights : Role} {past : AskedBefore} {n : ℕ} (cred : Credential) (call : Call) → path_of call ≡ Some [] → About rights past n
     → Concerns rights.subject past (actor_in cred n) call
 concerns-about {n = n} cred call path (an_object object) = on_object n (record { first = refl; second = refl }) object path
 concerns-about {n = n} cred call path (was_told told) = on_told n (record { first = refl; second = refl }) told path
 
 -- the server may look at it
-pub looks-at : {rights : Rights} {past : AskedBefore} {n : ℕ} (call : Call) → IsTrue (only_looks call) → path_of call ≡ Some []
+pub looks-at : {rights : Role} {past : AskedBefore} {n : ℕ} (call : Call) → IsTrue (only_looks call) → path_of call ≡ Some []
     → AreTold rights.subject.operation (alterations_by call) → About rights past n → MayDo rights past (CallAt (actor_in server_credential n) call)
-looks-at call only path told about = ((as_server refl only, concerns-about server_credential call path about), told)
+looks-at call only path told about = may-do (as_server refl only, concerns-about server_credential call path about) told
 
 -- who asks may do with it what they may, and say
-pub acts-on : {rights : Rights} {past : AskedBefore} {n : ℕ} {cred : Credential} (call : Call) → rights.cred ≡ Some cred → path_of call ≡ Some []
+pub acts-on : {rights : Role} {past : AskedBefore} {n : ℕ} {cred : Credential} (call : Call) → rights.cred ≡ Some cred → path_of call ≡ Some []
     → AreTold rights.subject.operation (alterations_by call) → About rights past n → MayDo rights past (CallAt (actor_in cred n) call)
-acts-on {cred = cred} call is path told about = ((as_who_asks is, concerns-about cred call path about), told)
+acts-on {cred = cred} call is path told about = may-do (as_who_asks is, concerns-about cred call path about) told
+
+pub do-later : (rights : Role) {old new : AskedBefore} → Extends old new → (e : Event) → MayDo rights old e → ByRight rights old e → MayDo rights new e × ByRight rights new e
+do-later rights more e may right = (may-do (may-later (rights_in rights) more e may.may) may.told, right-later rights more e right)
 
 -- ---- one event
 
-module _ {rights : Rights} {P : Server → Type 0} {known : AskedBefore} where
-  pub does-ask : (e : Event) → MayDo rights known e → DoesTo rights P known (λ past reply. WasAsked past e reply) (ask e)
+module _ {rights : Role} {k : Nodes} {known : AskedBefore} where
+  -- it makes nothing
+  pub does-ask : (e : Event) → MayDo rights known e → ByRight rights known e → Unmade e → DoesTo rights k known (λ past reply. WasAsked past e reply) (ask e)
   unfolding ask
-  does-ask e may = record {
+  does-ask e may right none = record {
     goes = λ past s fits. (
-      (may-later rights fits.since e may.0, may.1),
-      λ reply. (
-        record { since = extends-more (e, reply) fits.since; shares = fits.shares; clock = fits.clock; times = fits.times; holds = fits.holds },
-        record { was = has-last past (e, reply) },
-      ),
+      do-later rights fits.since e may right,
+      λ reply. (fits-unmade e reply (none reply) fits, record { was = has-last past (e, reply) }),
     );
   }
 
   does-give_unless : (e : Event) (reply : Reply) (o : Option Refusal) → refusal_in reply ≡ o → WasAsked known e reply
-      → DoesTo rights P known (λ past x. WasGranted past e x) (give_unless reply o)
+      → DoesTo rights k known (λ past x. WasGranted past e x) (give_unless reply o)
   does-give_unless e reply None is asked = gives reply (λ past more. record { was = more.has e reply asked.was; granted = is })
   does-give_unless e reply (Some r) is asked = does-fail _
 
   does-of_object : (e : Event) (reply : Reply) (o : Option Refusal) → refusal_in reply ≡ o → WasAsked known e reply
-      → DoesTo rights P known (λ past x. WasGranted past e x) (of_object reply o)
+      → DoesTo rights k known (λ past x. WasGranted past e x) (of_object reply o)
   does-of_object e reply None is asked = gives reply (λ past more. record { was = more.has e reply asked.was; granted = is })
   does-of_object e reply (Some r) is asked = does-fail _
 
-module _ {rights : Rights} {P : Server → Type 0} {known : AskedBefore} where
-  pub does-obtain : (e : Event) → MayDo rights known e → DoesTo rights P known (λ past reply. WasGranted past e reply) (obtain e)
-  does-obtain e may = then->>= (does-ask e may) (λ reply now more asked. does-give_unless e reply (refusal_in reply) refl asked)
+  does-replied_status : (n : ℕ) (reply : Reply) → WasGranted known (CallAt (actor_in server_credential n) (Lstat [])) reply
+      → DoesTo rights k known (λ past status. IsShown past n status) (replied_status reply)
+  does-replied_status n (Shown status) asked = gives status (λ past more. record { was = more.has _ (Shown status) asked.was })
+  does-replied_status n _ asked = does-fail _
 
-  pub does-on : (cred : Credential) (n : ℕ) (call : Call) → MayDo rights known (CallAt (actor_in cred n) call)
-      → DoesTo rights P known (λ past reply. WasGranted past (CallAt (actor_in cred n) call) reply) (on cred n call)
+module _ {rights : Role} {k : Nodes} {known : AskedBefore} where
+  pub does-obtain : (e : Event) → MayDo rights known e → ByRight rights known e → Unmade e → DoesTo rights k known (λ past reply. WasGranted past e reply) (obtain e)
+  does-obtain e may right none = then->>= (does-ask e may right none) (λ reply now more asked. does-give_unless e reply (refusal_in reply) refl asked)
+
+  pub does-on : (cred : Credential) (n : ℕ) (call : Call) → MayDo rights known (CallAt (actor_in cred n) call) → Unmade (CallAt (actor_in cred n) call)
+      → DoesTo rights k known (λ past reply. WasGranted past (CallAt (actor_in cred n) call) reply) (on cred n call)
   unfolding on
-  does-on cred n call may = then->>= (does-ask _ may) (λ reply now more asked. does-of_object _ reply (refusal_in reply) refl asked)
+  does-on cred n call may none = then->>= (does-ask (CallAt (actor_in cred n) call) may tt none) (λ reply now more asked. does-of_object _ reply (refusal_in reply) refl asked)
 
-  pub does-inside : (cred : Credential) (d : ℕ) (call : Call) → MayDo rights known (CallAt (actor_in cred d) call)
-      → DoesTo rights P known (λ past reply. WasGranted past (CallAt (actor_in cred d) call) reply) (inside cred d call)
+  pub does-inside : (cred : Credential) (d : ℕ) (call : Call) → MayDo rights known (CallAt (actor_in cred d) call) → Unmade (CallAt (actor_in cred d) call)
+      → DoesTo rights k known (λ past reply. WasGranted past (CallAt (actor_in cred d) call) reply) (inside cred d call)
   unfolding inside
-  does-inside cred d call may = does-obtain _ may
+  does-inside cred d call may none = does-obtain (CallAt (actor_in cred d) call) may tt none
 
   pub does-look_inside : (cred : Credential) (d : ℕ) (name : List ℕ) → MayDo rights known (CallAt (actor_in cred d) (Lstat name))
-      → Does rights P known (look_inside cred d name)
+      → Does rights k known (look_inside cred d name)
   unfolding look_inside
-  does-look_inside cred d name may = does->>= (does-inside cred d _ may) (λ reply. forget (does-needed _ _))
+  does-look_inside cred d name may = does->>= (does-inside cred d _ may (λ reply. refl)) (λ reply. forget (does-needed _ _))
 
   -- ---- what is told of what was opened or made
 
-  pub does-replied_opened : (e : Event) (reply : Reply) → WasGranted known e reply → DoesTo rights P known (λ past opened. IsOpened past opened.0 opened.1) (replied_opened reply)
+  pub does-replied_opened : (e : Event) (reply : Reply) → WasGranted known e reply → DoesTo rights k known (λ past opened. IsOpened past opened.0 opened.1) (replied_opened reply)
   does-replied_opened e (Opened handle n) asked = gives (handle, n) (λ past more. record { event = e; was = more.has e (Opened handle n) asked.was })
   does-replied_opened e _ asked = does-fail _
 
-  pub does-replied_number : (e : Event) (reply : Reply) → WasGranted known e reply → DoesTo rights P known (λ past n. IsToldOf past n) (replied_number reply)
-  does-replied_number e (Made n) asked =
-      gives n (λ past more. record { event = e; reply = Made n; was_asked = more.has e (Made n) asked.was; tells = refl })
-  does-replied_number e _ asked = does-fail _
-
-  pub does-or_closed : {X : Type 0} {n : ℕ} (handle : ℕ) (r : Result X RequestError) → rights.handle ≡ None → IsOpened known handle n → Does rights P known (or_closed handle r)
+  pub does-or_closed : {X : Type 0} {n : ℕ} (handle : ℕ) (r : Result X RequestError) → rights.handle ≡ None → IsOpened known handle n → Does rights k known (or_closed handle r)
   does-or_closed handle (Ok x) alone opened = does-give x
-  does-or_closed handle (Err e) alone opened = does->>= (does-ask _ (may-close alone opened)) (λ reply. does-fail e)
+  does-or_closed handle (Err e) alone opened = does->>= (does-ask _ (may-close alone opened) tt (λ reply. refl)) (λ reply. does-fail e)
 
   -- ---- what the server looks at
 
-  pub does-look : (n : ℕ) → About rights known n → Does rights P known (look n)
+  pub does-look : (n : ℕ) → About rights known n → DoesTo rights k known (λ past status. IsShown past n status) (look n)
   unfolding look
-  does-look n about = does->>= (does-on _ n _ (looks-at (Lstat []) refl refl tt about)) (λ reply. forget (does-needed _ _))
+  does-look n about = then->>= (does-on _ n _ (looks-at (Lstat []) refl refl tt about) (λ reply. refl)) (λ reply now more asked. does-replied_status n reply asked)
 
-  pub does-list_of : (n : ℕ) (which : AclType) → About rights known n → Does rights P known (list_of n which)
-  does-list_of n which about = does->>= (does-on _ n _ (looks-at (GetAcl [] which) refl refl tt about)) (λ reply. forget (does-needed _ _))
+  pub does-list_of : (n : ℕ) (which : AclType) → About rights known n → Does rights k known (list_of n which)
+  does-list_of n which about = does->>= (does-on _ n _ (looks-at (GetAcl [] which) refl refl tt about) (λ reply. refl)) (λ reply. forget (does-needed _ _))
 
   -- ---- times
 
-  does-if_kept : {X : Type 0} (f : Bool → Work X) (g : Server → Bool) → Does rights P known (f true) → Does rights P known (f false) → Does rights P known (kept g >>= f)
+  does-if_kept : {X : Type 0} (f : Bool → Work X) (g : Server → Bool) → Does rights k known (f true) → Does rights k known (f false) → Does rights k known (kept g >>= f)
   does-if_kept f g where_so where_not = does->>= (does-kept g) choose
     where
-      choose : (b : Bool) → Does rights P known (f b)
+      choose : (b : Bool) → Does rights k known (f b)
       choose true = where_so
       choose false = where_not
 
   -- the times of each object may be asked for
-  pub does-told_stamps : (n : ℕ) → Does rights P known (told_stamps n)
+  pub does-told_stamps : (n : ℕ) → Does rights k known (told_stamps n)
   unfolding told_stamps
   does-told_stamps n =
-      does-if_kept _ _ (does->>= (does-ask (Stamp n None None None) (asks, tt)) (λ reply. does->>= (does-needed _ _) (λ stamps. does-give _))) (does-give None)
+      does-if_kept _ _ (does->>= (does-ask (Stamp n None None None) (may-do asks tt) (λ sets. said-so (sym sets)) (λ reply. refl)) (λ reply. does->>= (does-needed _ _) (λ stamps. does-give _))) (does-give None)
 
-  pub does-tell_time : (now : Time) → Does rights P known (tell_time now)
+  pub does-tell_time : (now : Time) → Does rights k known (tell_time now)
   unfolding tell_time
-  does-tell_time now = does-if_kept _ _ (does->>= (does-ask (Clock (stamp_of now)) (tt, tt)) (λ reply. does-give tt)) (does-give tt)
+  does-tell_time now = does-if_kept _ _ (does->>= (does-ask (Clock (stamp_of now)) (may-do tt tt) tt (λ reply. refl)) (λ reply. does-give tt)) (does-give tt)
 
-module _ {rights : Rights} {P : Server → Type 0} {known : AskedBefore} where
-  pub does-acl_of : (n : ℕ) (which : AclType) → About rights known n → Does rights P known (acl_of n which)
+module _ {rights : Role} {k : Nodes} {known : AskedBefore} where
+  pub does-acl_of : (n : ℕ) (which : AclType) → About rights known n → Does rights k known (acl_of n which)
   does-acl_of n which about = does->>= (does-list_of n which about) (λ acl. does-give _)
 
   does-asks_list : (n : ℕ) (b : Bool) → About rights known n
-      → Does rights P known (if b then (acl_of n AccessAcl >>= (λ acl. give (hides acl))) else give false)
+      → Does rights k known (if b then (acl_of n AccessAcl >>= (λ acl. give (hides acl))) else give false)
   does-asks_list n true about = does->>= (does-acl_of n AccessAcl about) (λ acl. does-give _)
   does-asks_list n false about = does-give false
 
-  pub does-list_hides : (n : ℕ) → About rights known n → Does rights P known (list_hides n)
+  pub does-list_hides : (n : ℕ) → About rights known n → Does rights k known (list_hides n)
   does-list_hides n about = does->>= (does-look n about) (λ status. does-asks_list n (may_hide status.mode) about)
 
 -- ---- nodes and who asks
 
 -- the number that a node had when the request began
-abbrev pub WasNumber : Rights → ℕ → ℕ → Type 0
+abbrev pub WasNumber : Role → ℕ → ℕ → Type 0
 WasNumber rights node n = number_of_node rights.subject.start node ≡ Some n
 
 -- that of the node that the request is asked of
-abbrev pub IsOwn : Rights → ℕ → Type 0
+abbrev pub IsOwn : Role → ℕ → Type 0
 IsOwn rights n = WasNumber rights rights.subject.node n
 
 -- for who asks, of this node
-pub record IsFor (rights : Rights) (r : Asked) : Type 0 where
+pub record IsFor (rights : Role) (r : Asked) : Type 0 where
   pub cred : rights.cred ≡ r.cred
   pub node : rights.subject.node ≡ r.node
+  pub now : rights.now ≡ r.now
 
-pub own-object : {rights : Rights} {past : AskedBefore} {n : ℕ} → IsOwn rights n → About rights past n
+pub own-object : {rights : Role} {past : AskedBefore} {n : ℕ} → IsOwn rights n → About rights past n
 own-object own = an_object (of_node own)
 
-module _ {rights : Rights} {known : AskedBefore} where
-  pub gives-number : (node : ℕ) → DoesTo rights (Still rights) known (λ past n. WasNumber rights node n) (the_number node)
+module _ {rights : Role} {known : AskedBefore} where
+  pub gives-number : (node : ℕ) → DoesTo rights still known (λ past n. WasNumber rights node n) (the_number node)
   unfolding the_number kept give fail ◌>>=◌
   gives-number node = record { goes = λ past s fits. found past s fits (number_of_node s node) refl }
     where
-      found : (past : AskedBefore) (s : Server) → Fits rights (Still rights) known past s → (o : Option ℕ) → number_of_node s node ≡ o
-          → KeepsTo (doing rights) (LeftTo rights (Still rights) known (λ past n. WasNumber rights node n)) past (needed (Lacks ESTALE) o s)
+      found : (past : AskedBefore) (s : Server) → Fits rights still known past s → (o : Option ℕ) → number_of_node s node ≡ o
+          → KeepsTo (doing rights) (LeftTo rights still known (λ past n. WasNumber rights node n)) past (needed (Lacks ESTALE) o s)
       found past s fits None is = fits
-      found past s fits (Some n) is = (fits, sym (still-number fits.holds node) ∙ is)
+      found past s fits (Some n) is = (fits, sym (ap (λ g. number_of_node (record s { generations = g }) node) fits.holds.0) ∙ is)
 
-  pub gives-own : {r : Asked} → IsFor rights r → DoesTo rights (Still rights) known (λ past n. IsOwn rights n) (the_number r.node)
+  pub gives-own : {r : Asked} → IsFor rights r → DoesTo rights still known (λ past n. IsOwn rights n) (the_number r.node)
   gives-own of =
-      subst (λ k. DoesTo rights (Still rights) known (λ past n. IsOwn rights n) (the_number k)) of.node (gives-number rights.subject.node)
+      subst (λ k. DoesTo rights still known (λ past n. IsOwn rights n) (the_number k)) of.node (gives-number rights.subject.node)
 
   -- the credential is that of who asks
-  pub gives-caller : {P : Server → Type 0} (cred : Option Credential) → rights.cred ≡ cred → DoesTo rights P known (λ past c. rights.cred ≡ Some c) (who_asks cred)
+  pub gives-caller : {k : Nodes} (cred : Option Credential) → rights.cred ≡ cred → DoesTo rights k known (λ past c. rights.cred ≡ Some c) (who_asks cred)
   gives-caller None is = does-fail _
   gives-caller (Some c) is = gives c (λ past more. is)

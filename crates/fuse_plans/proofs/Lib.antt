@@ -4,6 +4,7 @@ pub mod EachRun
 pub mod ListingLaws
 pub mod Said
 pub mod Looks
+pub mod Roles
 pub mod Conducts
 pub mod Calls
 pub mod NameConducts
@@ -26,10 +27,6 @@ pub mod ToldNames
 pub mod KeptNames
 pub mod WhoAsks
 pub mod ToldNodes
-pub mod Recordings
-pub mod Makings
-pub mod SettingTimes
-pub mod OpenedObjects
 pub mod RecordedRequests
 pub mod NeedsNobody
 pub mod SameCredentials

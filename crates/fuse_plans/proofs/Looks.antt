@@ -1,10 +1,9 @@
--- Work that only looks: it asks what may be asked for no request, and leaves the generations of nodes as they are.
---     looking, SameNodes, Looks        whatever is replied
+-- Work that only looks: it asks what may be asked for no request.
+--     looking, Looks        whatever is replied
 --     looks-give, looks->>=, looks-obtain, ..        pieces; and for a search `looks`
---     looks-new_valid, looks-look_open, ..        what requests look at before they change something, and after
+--     looks-tell_time, looks-directory_for, ..        what requests look at before they change something
 --     looks-who_counts_in        who counts of those who ask
-use Rattle.std.specs.Prelude.{◌≡◌, ℕ, Bool, true, false, List, [], Option, None, Some, Result, Ok, Err, if◌then◌else◌}
-use Rattle.std.proofs.Common.{refl, ◌∙◌}
+use Rattle.std.specs.Prelude.{ℕ, Bool, true, false, List, [], Option, None, Some, Result, Ok, Err, if◌then◌else◌}
 use Rattle.posix_acl.specs.AccessList.{AccessList}
 use Rattle.posix_acl.specs.declared.entry.Perms.{Perms}
 use Rattle.fs_cred.specs.Credentials.{Credential}
@@ -20,55 +19,47 @@ use Rattle.fuse_protocol.specs.declared.reply.Time.{Time}
 use Rattle.fuse_state.specs.Servers.{Server}
 use Rattle.fuse_plans.specs.declared.request_error.RequestError.{RequestError}
 use Rattle.fuse_plans.specs.Plans.{Finish, followed_by, Restraint, KeepsTo}
-use Rattle.fuse_plans.specs.Works.{Work, give, fail, kept, ◌>>=◌, attempt, needed, ask, give_unless, refusal_in, unless_refused, obtain, or_closed}
+use Rattle.fuse_plans.specs.Works.{Work, give, fail, kept, ◌>>=◌, attempt, needed, ask, give_unless, refusal_in, unless_refused, obtain}
 use Rattle.fuse_plans.specs.Callers.{inside, look_inside, of_object, on, look, the_number}
-use Rattle.fuse_plans.specs.Times.{tell_time_if, tell_time, told_stamps_if, told_stamps}
+use Rattle.fuse_plans.specs.Times.{tell_time_if, tell_time}
 use Rattle.fuse_plans.specs.Masks.{acl_of, list_hides, is_masked}
-use Rattle.fuse_plans.specs.NamePlans.{directory_for, new_valid_if, new_valid, number_named_if, number_named, none_there, nothing_to_replace, may_move}
-use Rattle.fuse_plans.specs.FilePlans.{when, ask_first, look_open}
+use Rattle.fuse_plans.specs.NamePlans.{directory_for, number_named_if, number_named, none_there, nothing_to_replace, may_move}
+use Rattle.fuse_plans.specs.FilePlans.{when, ask_first}
 use Rattle.fuse_plans.specs.AclPlans.{acl_set, or_not_for_files}
 use Rattle.fuse_plans.specs.Alterations.{alterations_by, AreTold, MayBeAsked}
 use Rattle.fuse_plans.specs.Nobody.{asks_alone, is_granted, is_judged, needs_nobody, or_process, or_user, unless_masked, who_counts_in}
-use Rattle.fuse_plans.proofs.PlanLaws.{Whatever, keeps-followed_by, keeps-weaker, keeps->>=}
+use Rattle.fuse_plans.proofs.PlanLaws.{Whatever, keeps-followed_by, keeps->>=}
 
 -- what may be asked for no request changes nothing; and nothing is remembered
 abbrev pub looking : Restraint (Unit {0})
 looking = record { after = λ m e reply. tt; may_ask = λ m e. MayBeAsked None e }
 
-abbrev pub SameNodes : Server → {X : Type 0} → Unit {0} → X × Server → Type 0
-SameNodes s m r = r.1.generations ≡ s.generations
-
 pub record Looks {X : Type 0} (w : Work X) : Type 0 where
-  pub at : (s : Server) → KeepsTo looking (SameNodes s) tt (w s)
+  pub at : (s : Server) → KeepsTo looking Whatever tt (w s)
 
 -- ---- pieces
 
-pub looks-give : {X : Type 0} (x : X) → Looks (give x)
+looks-give : {X : Type 0} (x : X) → Looks (give x)
 unfolding give
-looks-give x = record { at = λ s. refl }
+looks-give x = record { at = λ s. tt }
 
-pub looks-fail : {X : Type 0} (e : RequestError) → Looks {X = X} (fail e)
+looks-fail : {X : Type 0} (e : RequestError) → Looks {X = X} (fail e)
 unfolding fail
-looks-fail e = record { at = λ s. refl }
+looks-fail e = record { at = λ s. tt }
 
-pub looks-kept : {X : Type 0} (f : Server → X) → Looks (kept f)
+looks-kept : {X : Type 0} (f : Server → X) → Looks (kept f)
 unfolding kept
-looks-kept f = record { at = λ s. refl }
+looks-kept f = record { at = λ s. tt }
 
-pub looks->>= : {X Y : Type 0} {w : Work X} {f : X → Work Y} → Looks w → ((x : X) → Looks (f x)) → Looks (w >>= f)
-looks->>= {X} {Y} {w} {f} first rest = record {
-  at = λ s.
-      keeps->>= looking (SameNodes s) (SameNodes s) w f tt s (first.at s)
-      (λ m x t same. keeps-weaker looking (SameNodes t) (SameNodes s) (f x t) tt ((rest x).at t) (λ n q later. later ∙ same)) (λ m e t same. same);
-}
+looks->>= : {X Y : Type 0} {w : Work X} {f : X → Work Y} → Looks w → ((x : X) → Looks (f x)) → Looks (w >>= f)
+looks->>= {X} {Y} {w} {f} first rest =
+    record { at = λ s. keeps->>= looking Whatever Whatever w f tt s (first.at s) (λ m x t any. (rest x).at t) (λ m e t any. tt) }
 
-pub looks-attempt : {X : Type 0} {w : Work X} → Looks w → Looks (attempt w)
+looks-attempt : {X : Type 0} {w : Work X} → Looks w → Looks (attempt w)
 unfolding attempt
-looks-attempt {X} {w} first = record {
-  at = λ s. keeps-followed_by looking (SameNodes s) (SameNodes s) (w s) (λ r. Finish (Ok r.0, r.1)) tt (first.at s) (λ m r same. same);
-}
+looks-attempt {X} {w} first = record { at = λ s. keeps-followed_by looking Whatever Whatever (w s) (λ r. Finish (Ok r.0, r.1)) tt (first.at s) (λ m r any. tt) }
 
-pub looks-if : {X : Type 0} (b : Bool) (w v : Work X) → Looks w → Looks v → Looks (if b then w else v)
+looks-if : {X : Type 0} (b : Bool) (w v : Work X) → Looks w → Looks v → Looks (if b then w else v)
 looks-if true w v first second = first
 looks-if false w v first second = second
 
@@ -80,11 +71,11 @@ pub looks-needed : {X : Type 0} (e : RequestError) (found : Option X) → Looks 
 looks-needed e None = looks-fail e
 looks-needed e (Some x) = looks-give x
 
-pub looks-ask : (e : Event) → MayBeAsked None e → Looks (ask e)
+looks-ask : (e : Event) → MayBeAsked None e → Looks (ask e)
 unfolding ask
-looks-ask e may = record { at = λ s. (may, λ reply. refl) }
+looks-ask e may = record { at = λ s. (may, λ reply. tt) }
 
-pub looks-unless_refused : (reply : Reply) → Looks (unless_refused reply)
+looks-unless_refused : (reply : Reply) → Looks (unless_refused reply)
 looks-unless_refused reply = choose (refusal_in reply)
   where
     choose : (refusal : Option Refusal) → Looks (give_unless reply refusal)
@@ -93,10 +84,6 @@ looks-unless_refused reply = choose (refusal_in reply)
 
 looks-obtain : (e : Event) → MayBeAsked None e → Looks (obtain e)
 looks-obtain e may = looks->>= (looks-ask e may) looks-unless_refused
-
-looks-or_closed : {X : Type 0} (handle : ℕ) (r : Result X RequestError) → Looks (or_closed handle r)
-looks-or_closed handle (Ok x) = looks-give x
-looks-or_closed handle (Err e) = looks->>= (looks-ask _ tt) (λ reply. looks-fail e)
 
 looks-inside : (cred : Credential) (d : ℕ) (call : Call) → AreTold None (alterations_by call) → Looks (inside cred d call)
 unfolding inside
@@ -114,7 +101,7 @@ looks-on : (cred : Credential) (n : ℕ) (call : Call) → AreTold None (alterat
 unfolding on
 looks-on cred n call may = looks->>= (looks-ask _ may) (λ reply. looks-of_object reply (refusal_in reply))
 
-pub looks-look : (n : ℕ) → Looks (look n)
+looks-look : (n : ℕ) → Looks (look n)
 unfolding look
 looks-look n = looks->>= (looks-on _ n (Lstat []) tt) (λ reply. looks-needed _ _)
 
@@ -123,7 +110,7 @@ unfolding the_number
 looks-the_number node = looks->>= (looks-kept _) (looks-needed _)
 
 -- each piece, for a search
-ruleset looks = (looks->>=, looks-give, looks-fail, looks-kept, looks-attempt, looks-if, looks-when, looks-needed, looks-ask, looks-obtain, looks-or_closed, looks-inside, looks-look_inside, looks-on, looks-look, looks-the_number)
+ruleset looks = (looks->>=, looks-give, looks-fail, looks-kept, looks-attempt, looks-if, looks-when, looks-needed, looks-ask, looks-obtain, looks-inside, looks-look_inside, looks-on, looks-look, looks-the_number)
 
 -- ---- times
 
@@ -134,14 +121,6 @@ looks-tell_time_if true now = search looks depth 12
 pub looks-tell_time : (now : Time) → Looks (tell_time now)
 unfolding tell_time
 looks-tell_time now = looks->>= (looks-kept _) (λ keeps. looks-tell_time_if keeps now)
-
-looks-told_stamps_if : (keeps : Bool) (n : ℕ) → Looks (told_stamps_if keeps n)
-looks-told_stamps_if false n = looks-give None
-looks-told_stamps_if true n = looks->>= (looks-ask _ tt) (λ reply. looks->>= (looks-needed _ _) (λ stamps. looks-give _))
-
-pub looks-told_stamps : (n : ℕ) → Looks (told_stamps n)
-unfolding told_stamps
-looks-told_stamps n = looks->>= (looks-kept _) (λ keeps. looks-told_stamps_if keeps n)
 
 -- ---- lists, and what hides
 
@@ -159,14 +138,6 @@ looks-is_granted : (node uid : ℕ) (want : Perms) → Looks (is_granted node ui
 unfolding is_granted
 looks-is_granted node uid want = search looks depth 16
 
-looks-new_valid_if : (d name_valid : ℕ) (b : Bool) → Looks (new_valid_if d name_valid b)
-looks-new_valid_if d name_valid false = looks-give 0
-looks-new_valid_if d name_valid true = search (looks, looks-list_hides) depth 12
-
-pub looks-new_valid : (d : ℕ) → Looks (new_valid d)
-unfolding new_valid
-looks-new_valid d = search (looks, looks-new_valid_if) depth 12
-
 pub looks-acl_set : (n : ℕ) (which : AclType) (acl : Option AccessList) → Looks (acl_set n which acl)
 looks-acl_set n which acl = search looks depth 12
 
@@ -174,7 +145,7 @@ pub looks-or_not_for_files : (set : Result Reply RequestError) → Looks (or_not
 looks-or_not_for_files (Ok reply) = looks-give tt
 looks-or_not_for_files (Err e) = search looks
 
--- ---- names, and what is open
+-- ---- names and files
 
 pub looks-directory_for : (node : ℕ) (name : List ℕ) → Looks (directory_for node name)
 looks-directory_for node name = search looks depth 12
@@ -200,14 +171,10 @@ looks-nothing_to_replace flags cred d name = search (looks, looks-none_there) de
 pub looks-ask_first : (cred : Credential) (n flags : ℕ) → Looks (ask_first cred n flags)
 looks-ask_first cred n flags = search looks depth 12
 
-pub looks-look_open : (handle n : ℕ) → Looks (look_open handle n)
-unfolding look_open
-looks-look_open handle n = search (looks, looks-told_stamps) depth 16
-
 -- ---- who counts
 
 looks-answer : {X Y : Type 0} {w : Work X} (f : Result X RequestError → Y) (s : Server) → Looks w → KeepsTo looking Whatever tt (followed_by (w s) (λ r. Finish (f r.0)))
-looks-answer {w = w} f s first = keeps-followed_by looking (SameNodes s) Whatever (w s) (λ r. Finish (f r.0)) tt (first.at s) (λ m r same. tt)
+looks-answer {w = w} f s first = keeps-followed_by looking Whatever Whatever (w s) (λ r. Finish (f r.0)) tt (first.at s) (λ m r any. tt)
 
 looks-is_judged : (node : ℕ) (judges : Bool) (s : Server) → KeepsTo looking Whatever tt (is_judged node judges s)
 looks-is_judged node false s = tt

@@ -1,82 +1,132 @@
--- Whatever is replied, each request sets times only by right, and what it makes is counted.
---     unmade-all        of others nothing is made
---     makings_are_counted, times_are_set_by_right
-use Rattle.std.specs.Prelude.{◌≡◌, ℕ, Bool, true, false, List, [], ◌∷◌, Option, None, Some}
-use Rattle.std.proofs.Common.{refl, sym, ap, subst, ◌∙◌}
+-- What was asked for a request, and remembered, as the laws of runs have it.
+--     makings_are_counted        what is made
+--     asked-in        what is remembered was asked
+--     times_are_set_by_right
+--     opened_is_the_object
+use Rattle.std.specs.Prelude.{◌≡◌, ℕ, zero, suc, List, [], ◌∷◌, length, Option, IsTrue, ◌⊎◌}
+use Rattle.std.specs.List.{Contains}
+use Rattle.std.proofs.Common.{refl, subst, ◌∙◌, inl, inr, arith}
+use Rattle.posix_acl.specs.Entries.{perms_of}
+use Rattle.fs_cred.specs.Credentials.{Credential}
+use Rattle.fs_cred.specs.Ownership.{counts_as_owner}
+use Rattle.fs_model.specs.declared.call.Call.TheVariants.{Lstat, Access}
 use Rattle.fs_model.specs.declared.event.Event.{Event}
-use Rattle.fs_model.specs.declared.event.Event.TheVariants.{Stamp}
+use Rattle.fs_model.specs.declared.event.Event.TheVariants.{CallAt, Stamp}
 use Rattle.fs_model.specs.declared.reply.Reply.{Reply}
-use Rattle.fuse_protocol.specs.declared.operation.Operation.{Operation}
-use Rattle.fuse_protocol.specs.declared.operation.Operation.TheVariants.{SetAttr, SymLink, MkNod, MkDir, Create}
+use Rattle.fs_model.specs.declared.reply.Reply.TheVariants.{Shown}
+use Rattle.fs_model.specs.declared.reply.Status.{Status}
 use Rattle.fuse_state.specs.Servers.{Server}
-use Rattle.fuse_plans.specs.declared.reply.Response.{Response}
-use Rattle.fuse_plans.specs.declared.reply.Response.TheVariants.{Silence, Says, Fails}
-use Rattle.fuse_plans.specs.Plans.{MayAskAll, after_all}
-use Rattle.fuse_plans.specs.Requests.{Request, asked_of}
+use Rattle.fuse_plans.specs.declared.reply.ReplyBody.TheVariants.{Opened}
+use Rattle.fuse_plans.specs.declared.reply.Response.TheVariants.{Says}
+use Rattle.fuse_plans.specs.Plans.{Plan, Finish, Ask, IsRunOf, IsAsked, at_once, later, after_all}
+use Rattle.fuse_plans.specs.Requests.{Request}
+use Rattle.fuse_plans.specs.Callers.{server_credential, actor_in}
 use Rattle.fuse_plans.specs.Acts.{AskedBefore}
-use Rattle.fuse_plans.specs.Alterations.{sets_times, sets_some, IsToldIn}
-use Rattle.fuse_plans.specs.Laws.{rights_of, counted_once, makings_counted, MakingsAreCounted}
-use Rattle.fuse_plans.specs.TimeLaws.{MaySetTimes, TimesAreSetByRight}
-use Rattle.fuse_plans.specs.Serving.{plan_of, request_plan}
-use Rattle.fuse_plans.proofs.PlanLaws.{keeps-follows, may_at}
-use Rattle.fuse_plans.proofs.Said.{said-so, makes_for, makes_in, unmade, times-told}
-use Rattle.fuse_plans.proofs.Conducts.{doing}
-use Rattle.fuse_plans.proofs.RequestConducts.{run-does}
-use Rattle.fuse_plans.proofs.Recordings.{events, Memory, recording, at_first, Counted, Said, TaskLeads, leads-from, keeps-request, history_is, generations_are}
-use Rattle.fuse_plans.proofs.Makings.{leads-make_link, leads-make_directory, leads-make_file, leads-create_file}
-use Rattle.fuse_plans.proofs.SettingTimes.{leads-set_attributes}
+use Rattle.fuse_plans.specs.Laws.{makings_counted, MakingsAreCounted, OpenedObject, OpenedIsTheObject}
+use Rattle.fuse_plans.specs.TimeLaws.{MaySet, owns, may_write, TimesAreSetByRight}
+use Rattle.fuse_plans.specs.Serving.{request_plan}
+use Rattle.fuse_plans.proofs.PlanLaws.{may_at}
+use Rattle.fuse_plans.proofs.Roles.{Role, role_of, MaySetBy, owns_it, writes_it, doing}
+use Rattle.fuse_plans.proofs.Conducts.{counted_in}
+use Rattle.fuse_plans.proofs.FileConducts.{OpenedHere}
+use Rattle.fuse_plans.proofs.RequestConducts.{Told, past_of, run-does, run-leaves}
 
 -- ---- what is made
 
-said_counted : (m : Memory) (response : Response) (t : Server) → Said (λ body k u. Counted k u) m (response, t) → Counted m t
-said_counted m (Says body) t said = said
-said_counted m (Fails e) t said = said
-said_counted m Silence t said = said
-
-module _ (r : Request) (s : Server) where
-  unmade-all : (past : AskedBefore) (es : List Event) (replies : List Reply) (generations : List (ℕ × ℕ)) → makes_in r.operation ≡ false
-      → MayAskAll (doing (rights_of r s)) past es replies → makings_counted es replies generations ≡ generations
-  unmade-all past [] replies generations none may = refl
-  unmade-all past (e ∷ es) [] generations none may = refl
-  unmade-all past (e ∷ es) (reply ∷ replies) generations none may =
-      ap (λ o. makings_counted es replies (counted_once o generations)) (unmade r.operation e reply none may.0.1)
-      ∙ unmade-all ((e, reply) ∷ past) es replies generations none may.1
-
-  leads-making : (nobody : Bool) (operation : Operation) → makes_for operation ≡ true → TaskLeads r s (λ body m t. Counted m t) (plan_of (asked_of r nobody) r.value operation)
-  leads-making nobody (SymLink name target) is = leads-from (λ m t begun. begun.1) (leads-make_link (asked_of r nobody) name target)
-  leads-making nobody (MkNod name mode umask) is = leads-from (λ m t begun. begun.1) (leads-make_file (asked_of r nobody) name mode umask)
-  leads-making nobody (MkDir name mode umask) is = leads-from (λ m t begun. begun.1) (leads-make_directory (asked_of r nobody) name mode umask)
-  leads-making nobody (Create name flags mode umask) is = leads-from (λ m t begun. begun.1) (leads-create_file (asked_of r nobody) name flags.0 mode umask)
-  leads-making nobody _ is = said-so (sym is)
+counted-all : (rights : Role) (past : AskedBefore) (es : List Event) (replies : List Reply) (generations : List (ℕ × ℕ))
+    → counted_in (after_all (doing rights) past es replies) generations ≡ makings_counted es replies (counted_in past generations)
+counted-all rights past [] replies generations = refl
+counted-all rights past (e ∷ es) [] generations = refl
+counted-all rights past (e ∷ es) (reply ∷ replies) generations = counted-all rights ((e, reply) ∷ past) es replies generations
 
 pub makings_are_counted : MakingsAreCounted
-makings_are_counted r s t response es replies runs = counted r.operation refl (makes_in r.operation) refl
+makings_are_counted r s t response es replies runs =
+    (run-leaves r s es replies (response, t) runs).nodes ∙ counted-all (role_of r s) [] es replies s.generations
+
+-- ---- what was asked
+
+-- with this reply
+record WasAsked (e : Event) (reply : Reply) (es : List Event) (replies : List Reply) : Type 0 where
+  after : List Event
+  asked : IsAsked e reply after es replies
+
+asked-in : (rights : Role) (past : AskedBefore) (es : List Event) (replies : List Reply) (e : Event) (reply : Reply)
+    → Contains (after_all (doing rights) past es replies) (e, reply) → Contains past (e, reply) ⊎ WasAsked e reply es replies
+asked-in rights past [] replies e reply was = inl was
+asked-in rights past (f ∷ es) [] e reply was = inl was
+asked-in rights past (f ∷ es) (other ∷ replies) e reply was = choose (asked-in rights ((f, other) ∷ past) es replies e reply was)
   where
-    counted : (o : Option Operation) → r.operation ≡ o → (makes : Bool) → makes_in r.operation ≡ makes → t.generations ≡ makings_counted es replies s.generations
-    counted o asked false none =
-        let does = run-does r s es replies (response, t) runs in does.1.nodes none ∙ sym (unmade-all r s [] es replies s.generations none does.0)
-    counted None asked true makes = said-so (sym makes ∙ ap makes_in asked)
-    counted (Some operation) asked true makes =
-        let leads = keeps-request r s (λ body m u. Counted m u) operation asked (λ nobody. leads-making r s nobody operation (sym (ap makes_in asked) ∙ makes)) in
-        let ends = keeps-follows (recording r) _ (request_plan r s) es replies (response, t) (at_first s) leads runs in
-        said_counted (after_all (recording r) (at_first s) es replies) response t ends.1 ∙ generations_are r (at_first s) es replies
+    choose : Contains ((f, other) ∷ past) (e, reply) ⊎ WasAsked e reply es replies → Contains past (e, reply) ⊎ WasAsked e reply (f ∷ es) (other ∷ replies)
+    choose (inl (zero, lt, is)) =
+        inr (subst (λ (x : Event × Reply). WasAsked x.0 x.1 (f ∷ es) (other ∷ replies)) is (record { after = es; asked = at_once replies }))
+    choose (inl (suc k, lt, is)) = inl (k, omega (arith, lt), is)
+    choose (inr found) = inr (record { after = found.after; asked = later f other es replies found.asked })
+
+none-before : {A : Type 0} {x : Event × Reply} → Contains [] x → A
+none-before was = absurd (omega (arith, was.1))
+
+asked-of : (rights : Role) (es : List Event) (replies : List Reply) (e : Event) (reply : Reply) → Contains (after_all (doing rights) [] es replies) (e, reply)
+    → WasAsked e reply es replies
+asked-of rights es replies e reply was = elim (asked-in rights [] es replies e reply was) [ inl none ↦ none-before none | inr asked ↦ asked ]
 
 -- ---- times
 
+set-as : (r : Request) (s : Server) (n : ℕ) (cred : Credential) (status : Status) (atime mtime : Option ℕ) (es : List Event) (replies : List Reply)
+    → MaySetBy r.now (past_of r s es replies) n cred (IsTrue (counts_as_owner cred status.owner)) atime mtime → MaySet r n cred status atime mtime es replies
+set-as r s n cred status atime mtime es replies (owns_it is) = owns is
+set-as r s n cred status atime mtime es replies (writes_it answer a m was granted) =
+    let asked = asked-of (role_of r s) es replies (CallAt (actor_in cred n) (Access [] (perms_of 2))) answer was in may_write answer asked.after a m asked.asked granted
+
 pub times_are_set_by_right : TimesAreSetByRight
 times_are_set_by_right r s t response n atime mtime ctime reply before after replied rest same sets runs =
-    let does = run-does r s _ _ (response, t) runs in
-    let may = may_at (doing (rights_of r s)) [] before after replied rest (Stamp n atime mtime ctime) reply same does.0 in
-    by_right r.operation refl (times-told r.operation (sets_some atime mtime ctime) may.1 sets)
-  where
-    by_right : (o : Option Operation) → r.operation ≡ o → IsToldIn o sets_times → MaySetTimes r n atime mtime ctime before replied
-    by_right None asked told = absurd told
-    by_right (Some (SetAttr changes)) asked told =
-        let first = at_first s in
-        let leads = keeps-request r s (λ body m u. Counted m u) (SetAttr changes) asked (λ nobody. leads-from (λ m u begun. begun.1) (leads-set_attributes changes nobody)) in
-        let may = keeps-follows (recording r) _ (request_plan r s) _ _ (response, t) first leads runs in
-        let histories = history_is r first before replied same in
-        subst (λ es. MaySetTimes r n atime mtime ctime es replied) histories.0
-        (subst (λ replies. MaySetTimes r n atime mtime ctime (events (after_all (recording r) first before replied).asked) replies) histories.1
-        (may_at (recording r) first before after replied rest (Stamp n atime mtime ctime) reply same may.0 sets))
-    by_right (Some _) asked told = absurd told
+    let right = (may_at (doing (role_of r s)) [] before after replied rest (Stamp n atime mtime ctime) reply same (run-does r s _ _ (response, t) runs).0).1 sets in
+    let shown = asked-of (role_of r s) before replied (CallAt (actor_in server_credential n) (Lstat [])) (Shown right.status) right.shown.was in
+    record {
+      cred = right.cred;
+      is_who_asks = right.is_who_asks;
+      status = right.status;
+      after = shown.after;
+      shown = shown.asked;
+      may = set-as r s n right.cred right.status atime mtime before replied right.may;
+      is_changed = right.is_changed;
+    }
+
+-- ---- what is opened
+
+-- as many replies as events
+run-length : {X : Type 0} (p : Plan X) (es : List Event) (replies : List Reply) (x : X) → IsRunOf p es replies x → length replies ≡ length es
+run-length (Finish y) [] [] x runs = refl
+run-length (Finish y) [] (reply ∷ replies) x runs = elim runs [ ]
+run-length (Finish y) (e ∷ es) replies x runs = elim runs [ ]
+run-length (Ask e next) [] replies x runs = elim runs [ ]
+run-length (Ask e next) (g ∷ es) [] x runs = elim runs [ ]
+run-length (Ask e next) (g ∷ es) (reply ∷ replies) x runs = let rest = run-length (next reply) es replies x runs.1 in omega (arith, rest)
+
+asked-last : (rights : Role) (past before : AskedBefore) (f : Event) (es : List Event) (other : Reply) (replies : List Reply) (e : Event) (reply : Reply) → length replies ≡ length es
+    → after_all (doing rights) past (f ∷ es) (other ∷ replies) ≡ (e, reply) ∷ before → IsAsked e reply [] (f ∷ es) (other ∷ replies)
+asked-last rights past before f [] other [] e reply same last =
+    subst (λ (x : Event × Reply). IsAsked x.0 x.1 [] (f ∷ []) (other ∷ [])) (let first : (f, other) ≡ (e, reply) = cc in first) (at_once [])
+asked-last rights past before f [] other (again ∷ replies) e reply same last = absurd (omega (arith, same))
+asked-last rights past before f (g ∷ es) other [] e reply same last = absurd (omega (arith, same))
+asked-last rights past before f (g ∷ es) other (again ∷ replies) e reply same last =
+    later f other (g ∷ es) (again ∷ replies) (asked-last rights ((f, other) ∷ past) before g es again replies e reply (omega (arith, same)) last)
+
+module _ (r : Request) (s : Server) (handle : ℕ) where
+  opened-so : (es : List Event) (replies : List Reply) → length replies ≡ length es → OpenedHere (role_of r s) (past_of r s es replies) handle → OpenedObject r s es replies handle
+  opened-so [] replies same was = absurd (let no : [] ≡ _ ∷ was.before = was.last in cc)
+  opened-so (e ∷ es) [] same was = absurd (omega (arith, same))
+  opened-so (e ∷ es) (reply ∷ replies) same was = record {
+    number = was.number;
+    of_node = was.of_node;
+    opener = was.opener;
+    starts = was.starts;
+    flags = was.flags;
+    told = was.told;
+    opened = asked-last (role_of r s) [] was.before e es reply replies _ _ (omega (arith, same)) was.last;
+  }
+
+pub opened_is_the_object : OpenedIsTheObject
+opened_is_the_object r s t flags es replies handle told is runs =
+    let ends = (run-does r s es replies (Says (Opened handle told), t) runs).1.1 in
+    let opens = subst (λ o. Told (role_of r s) o (past_of r s es replies) (Opened handle told)) is ends in
+    opened-so r s handle es replies (run-length (request_plan r s) es replies (Says (Opened handle told), t) runs) (opens handle told refl)

@@ -1,4 +1,4 @@
-use Rattle.fuse_plans.proofs.OpenedObjects.{opened_is_the_object as law}
+use Rattle.fuse_plans.proofs.RecordedRequests.{opened_is_the_object as law}
 use Rattle.fuse_plans.proofs.laws.opened_is_the_object.Goals as goal
 
 pub returns : goal.returns
