@@ -3,10 +3,11 @@
 --     WasAsked, WasGranted        an event with its reply
 --     IsOpened, About        what was opened for the request; an object that it is about, or was told of
 --     do-later, does-ask, does-obtain, does-on, does-inside        one event, which makes nothing
+--     lasts-changed        one call that changes all
 --     looks-at        the server may look at such an object
 --     does-look, does-list_of, does-list_hides, does-told_stamps        what the server looks at
 --     IsFor, IsOwn, gives-own, gives-number, gives-caller        nodes and who asks
-use Rattle.std.specs.Prelude.{◌≡◌, ℕ, Bool, true, false, List, [], Option, None, Some, Result, Ok, Err, IsTrue, if◌then◌else◌}
+use Rattle.std.specs.Prelude.{◌≡◌, ℕ, Bool, true, false, List, [], ◌∷◌, Option, None, Some, Result, Ok, Err, IsTrue, if◌then◌else◌}
 use Rattle.std.specs.List.{Contains}
 use Rattle.std.proofs.Common.{refl, sym, ap, subst, ◌∙◌}
 use Rattle.posix_acl.specs.Entries.{perms_of}
@@ -22,16 +23,16 @@ use Rattle.fs_model.specs.declared.event.Event.TheVariants.{CallAt, CallBy, Stam
 use Rattle.fs_model.specs.declared.event.HandleCall.{HandleCall}
 use Rattle.fs_model.specs.declared.event.HandleCall.TheVariants as by_handle
 use Rattle.fs_model.specs.declared.reply.Reply.{Reply}
-use Rattle.fs_model.specs.declared.reply.Reply.TheVariants.{Shown, Opened}
+use Rattle.fs_model.specs.declared.reply.Reply.TheVariants.{Shown, Opened, Refused}
 use Rattle.fuse_protocol.specs.declared.reply.Time.{Time}
 use Rattle.fuse_state.specs.Servers.{Server, number_of_node}
 use Rattle.fuse_state.specs.Stamps.{stamp_of}
-use Rattle.fuse_plans.specs.Plans.{KeepsTo}
+use Rattle.fuse_plans.specs.Plans.{followed_by, KeepsTo}
 use Rattle.fuse_plans.specs.declared.request_error.RequestError.{RequestError}
 use Rattle.fuse_plans.specs.declared.request_error.RequestError.TheVariants.{Lacks}
 use Rattle.fuse_plans.specs.declared.request_error.OtherErrno.TheVariants.{ESTALE}
 use Rattle.fuse_plans.specs.declared.request.Asked.{Asked}
-use Rattle.fuse_plans.specs.Works.{Work, give, fail, kept, ◌>>=◌, ask, needed, refusal_in, give_unless, obtain, or_closed, replied_status, replied_opened}
+use Rattle.fuse_plans.specs.Works.{Work, give, fail, keep, goes_on, kept, ◌>>=◌, ask, needed, refusal_in, give_unless, obtain, or_closed, replied_status, replied_opened}
 use Rattle.fuse_plans.specs.Callers.{server_credential, actor_in, who_asks, inside, look_inside, of_object, on, look, the_number}
 use Rattle.fuse_plans.specs.Times.{tell_time, told_stamps}
 use Rattle.fuse_plans.specs.Masks.{list_of, acl_of, may_hide, hides, list_hides}
@@ -39,8 +40,9 @@ use Rattle.fuse_plans.specs.Acts.{Subject, AskedBefore, IsObject, of_node, IsTol
 use Rattle.fuse_plans.specs.Alterations.{alterations_by, AreTold}
 use Rattle.fuse_plans.specs.Conduct.{Rights, only_looks, MayRun, MayCall, as_who_asks, as_server, to_run, MayCallBy, given, opened_here, asks, MayAsk}
 use Rattle.fuse_plans.proofs.Said.{said-so}
-use Rattle.fuse_plans.proofs.Roles.{Role, rights_in, Extends, has-last, IsShown, MayDo, may-do, ByRight, right-later, doing}
-use Rattle.fuse_plans.proofs.Conducts.{Unmade, Nodes, still, Fits, fits-unmade, LeftTo, DoesTo, Does, gives, does-give, does-fail, does-kept, does-needed, then->>=, does->>=, forget}
+use Rattle.fuse_plans.proofs.PlanLaws.{Whatever}
+use Rattle.fuse_plans.proofs.Roles.{refused-unchanged, Role, rights_in, Extends, has-last, IsShown, MayDo, may-do, ByRight, right-later, doing}
+use Rattle.fuse_plans.proofs.Conducts.{Unmade, Quiet, a-look, SameAll, SameTimes, EndsTo, Lasts, spared, left-changed, Nodes, still, Fits, fits-next, fits-quiet, LeftTo, DoesTo, Does, gives, does-give, does-fail, does-kept, does-needed, then->>=, does->>=, forget}
 
 -- ---- what may be asked later too
 
@@ -147,12 +149,12 @@ do-later rights more e may right = (may-do (may-later (rights_in rights) more e 
 
 module _ {rights : Role} {k : Nodes} {known : AskedBefore} where
   -- it makes nothing
-  pub does-ask : (e : Event) → MayDo rights known e → ByRight rights known e → Unmade e → DoesTo rights k known (λ past reply. WasAsked past e reply) (ask e)
+  pub does-ask : (e : Event) → MayDo rights known e → ByRight rights known e → Quiet rights e → DoesTo rights k known (λ past reply. WasAsked past e reply) (ask e)
   unfolding ask
   does-ask e may right none = record {
     goes = λ past s fits. (
       do-later rights fits.since e may right,
-      λ reply. (fits-unmade e reply (none reply) fits, record { was = has-last past (e, reply) }),
+      λ reply. (fits-quiet e reply none fits, record { was = has-last past (e, reply) }),
     );
   }
 
@@ -171,16 +173,28 @@ module _ {rights : Role} {k : Nodes} {known : AskedBefore} where
   does-replied_status n (Shown status) asked = gives status (λ past more. record { was = more.has _ (Shown status) asked.was })
   does-replied_status n _ asked = does-fail _
 
+-- what changes all by one call
+module _ {rights : Role} {known : AskedBefore} {X : Type 0} (e : Event) (may : MayDo rights known e) (right : ByRight rights known e) (unmade : Unmade e)
+    (f : Server → Server) (same : SameAll f) (times : SameTimes rights f) (x : X) where
+  pub lasts-changed : Lasts rights known (obtain e >>= (λ done. keep f >>= (λ noted. give x)))
+  unfolding ask give fail keep ◌>>=◌
+  lasts-changed = record { goes = λ past s fits. (do-later rights fits.since e may right, λ reply. each past s fits reply) }
+    where
+      each : (past : AskedBefore) (s : Server) → Fits rights still known past s → (reply : Reply)
+          → KeepsTo (doing rights) (EndsTo rights Whatever) ((e, reply) ∷ past) (followed_by (give_unless reply (refusal_in reply) s) (goes_on (λ done. keep f >>= (λ noted. give x))))
+      each past s fits (Refused refusal) = spared (fits-next e (Refused refusal) (unmade _) (λ once. refused-unchanged e refusal) fits)
+      each past s fits reply = (left-changed f e reply (unmade reply) same times fits, tt)
+
 module _ {rights : Role} {k : Nodes} {known : AskedBefore} where
-  pub does-obtain : (e : Event) → MayDo rights known e → ByRight rights known e → Unmade e → DoesTo rights k known (λ past reply. WasGranted past e reply) (obtain e)
+  pub does-obtain : (e : Event) → MayDo rights known e → ByRight rights known e → Quiet rights e → DoesTo rights k known (λ past reply. WasGranted past e reply) (obtain e)
   does-obtain e may right none = then->>= (does-ask e may right none) (λ reply now more asked. does-give_unless e reply (refusal_in reply) refl asked)
 
-  pub does-on : (cred : Credential) (n : ℕ) (call : Call) → MayDo rights known (CallAt (actor_in cred n) call) → Unmade (CallAt (actor_in cred n) call)
+  pub does-on : (cred : Credential) (n : ℕ) (call : Call) → MayDo rights known (CallAt (actor_in cred n) call) → Quiet rights (CallAt (actor_in cred n) call)
       → DoesTo rights k known (λ past reply. WasGranted past (CallAt (actor_in cred n) call) reply) (on cred n call)
   unfolding on
   does-on cred n call may none = then->>= (does-ask (CallAt (actor_in cred n) call) may tt none) (λ reply now more asked. does-of_object _ reply (refusal_in reply) refl asked)
 
-  pub does-inside : (cred : Credential) (d : ℕ) (call : Call) → MayDo rights known (CallAt (actor_in cred d) call) → Unmade (CallAt (actor_in cred d) call)
+  pub does-inside : (cred : Credential) (d : ℕ) (call : Call) → MayDo rights known (CallAt (actor_in cred d) call) → Quiet rights (CallAt (actor_in cred d) call)
       → DoesTo rights k known (λ past reply. WasGranted past (CallAt (actor_in cred d) call) reply) (inside cred d call)
   unfolding inside
   does-inside cred d call may none = does-obtain (CallAt (actor_in cred d) call) may tt none
@@ -188,7 +202,7 @@ module _ {rights : Role} {k : Nodes} {known : AskedBefore} where
   pub does-look_inside : (cred : Credential) (d : ℕ) (name : List ℕ) → MayDo rights known (CallAt (actor_in cred d) (Lstat name))
       → Does rights k known (look_inside cred d name)
   unfolding look_inside
-  does-look_inside cred d name may = does->>= (does-inside cred d _ may (λ reply. refl)) (λ reply. forget (does-needed _ _))
+  does-look_inside cred d name may = does->>= (does-inside cred d _ may (a-look (λ reply. refl) refl)) (λ reply. forget (does-needed _ _))
 
   -- ---- what is told of what was opened or made
 
@@ -198,16 +212,16 @@ module _ {rights : Role} {k : Nodes} {known : AskedBefore} where
 
   pub does-or_closed : {X : Type 0} {n : ℕ} (handle : ℕ) (r : Result X RequestError) → rights.handle ≡ None → IsOpened known handle n → Does rights k known (or_closed handle r)
   does-or_closed handle (Ok x) alone opened = does-give x
-  does-or_closed handle (Err e) alone opened = does->>= (does-ask _ (may-close alone opened) tt (λ reply. refl)) (λ reply. does-fail e)
+  does-or_closed handle (Err e) alone opened = does->>= (does-ask _ (may-close alone opened) tt (a-look (λ reply. refl) refl)) (λ reply. does-fail e)
 
   -- ---- what the server looks at
 
   pub does-look : (n : ℕ) → About rights known n → DoesTo rights k known (λ past status. IsShown past n status) (look n)
   unfolding look
-  does-look n about = then->>= (does-on _ n _ (looks-at (Lstat []) refl refl tt about) (λ reply. refl)) (λ reply now more asked. does-replied_status n reply asked)
+  does-look n about = then->>= (does-on _ n _ (looks-at (Lstat []) refl refl tt about) (a-look (λ reply. refl) refl)) (λ reply now more asked. does-replied_status n reply asked)
 
   pub does-list_of : (n : ℕ) (which : AclType) → About rights known n → Does rights k known (list_of n which)
-  does-list_of n which about = does->>= (does-on _ n _ (looks-at (GetAcl [] which) refl refl tt about) (λ reply. refl)) (λ reply. forget (does-needed _ _))
+  does-list_of n which about = does->>= (does-on _ n _ (looks-at (GetAcl [] which) refl refl tt about) (a-look (λ reply. refl) refl)) (λ reply. forget (does-needed _ _))
 
   -- ---- times
 
@@ -222,11 +236,11 @@ module _ {rights : Role} {k : Nodes} {known : AskedBefore} where
   pub does-told_stamps : (n : ℕ) → Does rights k known (told_stamps n)
   unfolding told_stamps
   does-told_stamps n =
-      does-if_kept _ _ (does->>= (does-ask (Stamp n None None None) (may-do asks tt) (λ sets. said-so (sym sets)) (λ reply. refl)) (λ reply. does->>= (does-needed _ _) (λ stamps. does-give _))) (does-give None)
+      does-if_kept _ _ (does->>= (does-ask (Stamp n None None None) (may-do asks tt) (λ sets. said-so (sym sets)) (a-look (λ reply. refl) refl)) (λ reply. does->>= (does-needed _ _) (λ stamps. does-give _))) (does-give None)
 
   pub does-tell_time : (now : Time) → Does rights k known (tell_time now)
   unfolding tell_time
-  does-tell_time now = does-if_kept _ _ (does->>= (does-ask (Clock (stamp_of now)) (may-do tt tt) tt (λ reply. refl)) (λ reply. does-give tt)) (does-give tt)
+  does-tell_time now = does-if_kept _ _ (does->>= (does-ask (Clock (stamp_of now)) (may-do tt tt) tt (a-look (λ reply. refl) refl)) (λ reply. does-give tt)) (does-give tt)
 
 module _ {rights : Role} {k : Nodes} {known : AskedBefore} where
   pub does-acl_of : (n : ℕ) (which : AclType) → About rights known n → Does rights k known (acl_of n which)

@@ -1,9 +1,10 @@
 -- How pieces of plans behave, and those that are made of them. What is remembered are the events so far with their replies.
 --     counted_in, Nodes, Counts        what was made, and what is known of the generations of nodes
+--     Quiet, a-look, a-step        an event that makes nothing
 --     Fits, begins        of a server as it is then
 --     DoesTo, Does, LastsTo, Lasts        what a piece keeps to, and the last one
 --     does-give, does-keep, then->>=, with->>=, does->>=, does-attempt, lasts->>=, ..        the pieces
---     fits-kept, fits-unmade, fits-made        after a change of what the server keeps, and after one event
+--     fits-kept, fits-next, fits-quiet, fits-made, left-changed        after a change of what the server keeps, and after one event
 use Rattle.std.specs.Prelude.{◌≡◌, ℕ, Bool, true, false, List, [], ◌∷◌, Option, None, Some, Result, Ok, Err, IsTrue, IsFalse, if◌then◌else◌}
 use Rattle.std.proofs.Common.{refl, sym, ap, subst, ◌∙◌}
 use Rattle.fs_model.specs.declared.event.Event.{Event}
@@ -18,11 +19,11 @@ use Rattle.fuse_plans.specs.Works.{Work, give, fail, kept, keep, ◌>>=◌, atte
 use Rattle.fuse_plans.specs.FilePlans.{when, done}
 use Rattle.fuse_plans.specs.Acts.{AskedBefore}
 use Rattle.fuse_plans.specs.KeepingDue.{clock_of}
-use Rattle.fuse_plans.specs.Alterations.{adds_name, says_change_in}
+use Rattle.fuse_plans.specs.Alterations.{adds_name, alterations_in, says_change_in}
 use Rattle.fuse_plans.specs.Laws.{made_by_event, counted_once}
 use Rattle.fuse_plans.proofs.PlanLaws.{Whatever, keeps-followed_by, keeps-weaker, keeps->>=}
-use Rattle.fuse_plans.proofs.Said.{Told, changing}
-use Rattle.fuse_plans.proofs.Roles.{Role, Extends, extends-itself, extends-more, extends-both, extends-nothing, doing}
+use Rattle.fuse_plans.proofs.Said.{Told, changing, at_once_in, adding}
+use Rattle.fuse_plans.proofs.Roles.{Role, Extends, extends-itself, extends-more, extends-both, extends-nothing, HasChanged, Clean, clean-more, doing}
 
 -- ---- what is known of what the server keeps
 
@@ -34,6 +35,21 @@ counted_in (x ∷ past) generations = counted_once (made_by_event x.0 x.1) (coun
 -- an event makes nothing
 abbrev pub Unmade : Event → Type 0
 Unmade e = (reply : Reply) → made_by_event e reply ≡ None
+
+-- and where the request changes all by one call, it changes nothing
+pub record Quiet (rights : Role) (e : Event) : Type 0 where
+  pub unmade : Unmade e
+  pub spares : at_once_in rights.subject.operation ≡ true → alterations_in e ≡ []
+
+pub a-look : {rights : Role} {e : Event} → Unmade e → alterations_in e ≡ [] → Quiet rights e
+a-look unmade none = record { unmade = unmade; spares = λ once. none }
+
+pub a-step : {rights : Role} {e : Event} → Unmade e → (at_once_in rights.subject.operation ≡ true → alterations_in e ≡ []) → Quiet rights e
+a-step unmade steps = record { unmade = unmade; spares = steps }
+
+-- nothing has changed so far, where the request changes all by one call
+abbrev pub CleanIf : Role → AskedBefore → Type 0
+CleanIf rights past = at_once_in rights.subject.operation ≡ true → Clean past
 
 pub data Nodes : Type 0 where
   -- nothing was made, and each node leads where it did when the request began
@@ -88,15 +104,17 @@ pub record Fits (rights : Role) (k : Nodes) (known past : AskedBefore) (s : Serv
   pub shares : WithinShares rights.subject.start → WithinShares s
   pub clock : clock_of s ≡ clock_of rights.subject.start
   pub times : IsFalse (says_change_in rights.subject.operation) → times_kept s ≡ times_kept rights.subject.start
+  pub clean : CleanIf rights past
   pub holds : Counts rights k past s
 
 pub begins : (rights : Role) (s : Server) → rights.subject.start ≡ s → (past : AskedBefore) → counted_in past rights.subject.start.generations ≡ rights.subject.start.generations
-    → Fits rights still [] past s
-begins rights s start past none = record {
+    → CleanIf rights past → Fits rights still [] past s
+begins rights s start past none clean = record {
   since = extends-nothing past;
   shares = λ within. subst WithinShares start within;
   clock = ap clock_of (sym start);
   times = λ none. ap times_kept (sym start);
+  clean = clean;
   holds = (ap (λ t. t.generations) (sym start), none);
 }
 
@@ -104,7 +122,7 @@ abbrev pub LeftTo : Role → Nodes → AskedBefore → {X : Type 0} → (AskedBe
 LeftTo rights k known F past (Ok x, s) = Fits rights k known past s × F past x
 LeftTo rights k known F past (Err e, s) = Fits rights k known past s
 
--- Where P holds of what the server keeps, the work behaves, and P holds then; and F of its value, after what was asked.
+-- Where the server fits, the work behaves, and it fits then; and F holds of the value, after what was asked.
 pub record DoesTo (rights : Role) (k : Nodes) (known : AskedBefore) {X : Type 0} (F : AskedBefore → X → Type 0) (w : Work X) : Type 0 where
   pub goes : (past : AskedBefore) (s : Server) → Fits rights k known past s → KeepsTo (doing rights) (LeftTo rights k known F) past (w s)
 
@@ -121,7 +139,7 @@ pub record Left (rights : Role) (past : AskedBefore) (s : Server) : Type 0 where
 
 abbrev pub EndsTo : Role → {X : Type 0} → (AskedBefore → X → Type 0) → AskedBefore → Result X RequestError × Server → Type 0
 EndsTo rights T past (Ok x, s) = Left rights past s × T past x
-EndsTo rights T past (Err e, s) = Left rights past s
+EndsTo rights T past (Err e, s) = Left rights past s × CleanIf rights past
 
 -- the work behaves, and T holds of its value; it is the last
 pub record LastsTo (rights : Role) (k : Nodes) (known : AskedBefore) {X : Type 0} (T : AskedBefore → X → Type 0) (w : Work X) : Type 0 where
@@ -137,10 +155,10 @@ OkTo F past (Err e) = Unit {0}
 
 module _ {rights : Role} {k : Nodes} {known : AskedBefore} where
   fits-later : {now past : AskedBefore} {s : Server} → Extends known now → Fits rights k now past s → Fits rights k known past s
-  fits-later more fits = record { since = extends-both more fits.since; shares = fits.shares; clock = fits.clock; times = fits.times; holds = fits.holds }
+  fits-later more fits = record { since = extends-both more fits.since; shares = fits.shares; clock = fits.clock; times = fits.times; clean = fits.clean; holds = fits.holds }
 
   pub fits-now : {past : AskedBefore} {s : Server} → Fits rights k known past s → Fits rights k past past s
-  fits-now {past} fits = record { since = extends-itself past; shares = fits.shares; clock = fits.clock; times = fits.times; holds = fits.holds }
+  fits-now {past} fits = record { since = extends-itself past; shares = fits.shares; clock = fits.clock; times = fits.times; clean = fits.clean; holds = fits.holds }
 
   -- ---- without events
 
@@ -167,6 +185,7 @@ module _ {rights : Role} {k : Nodes} {known : AskedBefore} where
     shares = λ start. within (fits.shares start);
     clock = counts ∙ fits.clock;
     times = λ none. same none s ∙ fits.times none;
+    clean = fits.clean;
     holds = counts-keep rights k past s (f s) nodes fits.holds;
   }
 
@@ -259,19 +278,27 @@ module _ {rights : Role} {k : Nodes} {known : AskedBefore} where
 
   -- ---- one event
 
-  pub fits-unmade : {past : AskedBefore} {s : Server} (e : Event) (reply : Reply) → made_by_event e reply ≡ None → Fits rights k known past s → Fits rights k known ((e, reply) ∷ past) s
-  fits-unmade {past} {s} e reply none fits = record {
+  pub fits-next : {past : AskedBefore} {s : Server} (e : Event) (reply : Reply) → made_by_event e reply ≡ None
+      → (at_once_in rights.subject.operation ≡ true → HasChanged e reply → ⊥) → Fits rights k known past s → Fits rights k known ((e, reply) ∷ past) s
+  fits-next {past} {s} e reply none unchanged fits = record {
     since = extends-more (e, reply) fits.since;
     shares = fits.shares;
     clock = fits.clock;
     times = fits.times;
+    clean = λ once. clean-more e reply (unchanged once) (fits.clean once);
     holds = counts-later rights k past s e reply none fits.holds;
   }
+
+  pub fits-quiet : {past : AskedBefore} {s : Server} (e : Event) (reply : Reply) → Quiet rights e → Fits rights k known past s → Fits rights k known ((e, reply) ∷ past) s
+  fits-quiet e reply quiet fits = fits-next e reply (quiet.unmade reply) (λ once changed. changed.says (quiet.spares once)) fits
 
   -- ---- the last pieces
 
   pub left : {past : AskedBefore} {s : Server} → Fits rights k known past s → Left rights past s
   left {past} {s} fits = record { shares = fits.shares; clock = fits.clock; times = fits.times; nodes = counts-end rights k past s fits.holds }
+
+  pub spared : {past : AskedBefore} {s : Server} → Fits rights k known past s → Left rights past s × CleanIf rights past
+  spared fits = (left fits, fits.clean)
 
   pub does-lasts : {X : Type 0} {F : AskedBefore → X → Type 0} {w : Work X} → DoesTo rights k known F w → LastsTo rights k known Whatever w
   does-lasts {X} {F} {w} first = record {
@@ -280,14 +307,14 @@ module _ {rights : Role} {k : Nodes} {known : AskedBefore} where
     where
       weaker : (n : AskedBefore) (r : Result X RequestError × Server) → LeftTo rights k known F n r → EndsTo rights Whatever n r
       weaker n (Ok x, t) fits = (left fits.0, tt)
-      weaker n (Err e, t) fits = left fits
+      weaker n (Err e, t) fits = spared fits
 
   pub lasts-then : {X Y : Type 0} {F : AskedBefore → X → Type 0} {T : AskedBefore → Y → Type 0} {w : Work X} {f : X → Work Y}
       → DoesTo rights k known F w → ((x : X) (now : AskedBefore) → Extends known now → F now x → LastsTo rights k now T (f x)) → LastsTo rights k known T (w >>= f)
   lasts-then {X} {Y} {F} {T} {w} {f} first rest = record {
     goes = λ past s fits.
         keeps->>= (doing rights) (LeftTo rights k known F) (EndsTo rights T) w f past s (first.goes past s fits)
-        (λ n x t fits. (rest x n fits.0.since fits.1).goes n t (fits-now fits.0)) (λ n e t fits. left fits);
+        (λ n x t fits. (rest x n fits.0.since fits.1).goes n t (fits-now fits.0)) (λ n e t fits. spared fits);
   }
 
   pub lasts-with : {X Y : Type 0} {F : X → Type 0} {T : AskedBefore → Y → Type 0} {w : Work X} {f : X → Work Y}
@@ -295,7 +322,7 @@ module _ {rights : Role} {k : Nodes} {known : AskedBefore} where
   lasts-with {X} {Y} {F} {T} {w} {f} first rest = record {
     goes = λ past s fits.
         keeps->>= (doing rights) (LeftTo rights k known (λ past. F)) (EndsTo rights T) w f past s (first.goes past s fits)
-        (λ n x t fits. (rest x fits.1).goes n t fits.0) (λ n e t fits. left fits);
+        (λ n x t fits. (rest x fits.1).goes n t fits.0) (λ n e t fits. spared fits);
   }
 
   pub lasts->>= : {X Y : Type 0} {F : AskedBefore → X → Type 0} {T : AskedBefore → Y → Type 0} {w : Work X} {f : X → Work Y}
@@ -311,7 +338,18 @@ fits-made {rights} {known} {past} {s} f e reply n adds same counts makes fits = 
   shares = λ start. same_within s (f s) (ap (λ k. k.0) (same s)) (fits.shares start);
   clock = ap (λ k. k.1) (same s) ∙ fits.clock;
   times = λ none. changing adds none;
+  clean = λ once. adding adds once;
   holds =
       counts ∙ ap (counted_once (Some n)) (fits.holds.0 ∙ sym fits.holds.1)
       ∙ sym (ap (λ o. counted_once o (counted_in past rights.subject.start.generations)) makes);
+}
+
+-- the one call that changes all was granted, and the server keeps that
+pub left-changed : {rights : Role} {known past : AskedBefore} {s : Server} (f : Server → Server) (e : Event) (reply : Reply) → made_by_event e reply ≡ None → SameAll f → SameTimes rights f
+    → Fits rights still known past s → Left rights ((e, reply) ∷ past) (f s)
+left-changed {rights} {known} {past} {s} f e reply none same times fits = record {
+  shares = λ start. same_within s (f s) (ap (λ k. k.0) (same s).0) (fits.shares start);
+  clock = ap (λ k. k.1) (same s).0 ∙ fits.clock;
+  times = λ unsaid. times unsaid s ∙ fits.times unsaid;
+  nodes = (same s).1 ∙ counts-end rights still ((e, reply) ∷ past) s (counts-later rights still past s e reply none fits.holds);
 }

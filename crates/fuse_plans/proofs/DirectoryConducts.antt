@@ -30,7 +30,7 @@ use Rattle.fuse_plans.specs.Acts.{AskedBefore, lists}
 use Rattle.fuse_plans.specs.Conduct.{as_server}
 use Rattle.fuse_plans.proofs.Said.{unopened}
 use Rattle.fuse_plans.proofs.Roles.{Role, may-do, doing}
-use Rattle.fuse_plans.proofs.Conducts.{Nodes, still, Fits, LeftTo, Does, OkTo, does-give, does-fail, does-kept, does-keep_within, does-keep, does-of_result, gives-of_result, does-needed, does-if, forget, then->>=, with->>=, does->>=, does-attempt}
+use Rattle.fuse_plans.proofs.Conducts.{a-look, Nodes, still, Fits, LeftTo, Does, OkTo, does-give, does-fail, does-kept, does-keep_within, does-keep, does-of_result, gives-of_result, does-needed, does-if, forget, then->>=, with->>=, does->>=, does-attempt}
 use Rattle.fuse_plans.proofs.Calls.{WasGranted, IsOpened, may-close, may-list, About, looks-at, acts-on, does-ask, does-obtain, does-on, does-replied_opened, IsOwn, IsFor, own-object, gives-own, gives-caller}
 use Rattle.fuse_plans.proofs.NameConducts.{does-plain_name, does-find_inside}
 
@@ -51,6 +51,7 @@ module _ {rights : Role} {known : AskedBefore} where
           shares = λ start. opened_within s uid node is (fits.shares start);
           clock = fits.clock;
           times = fits.times;
+          clean = fits.clean;
           holds = fits.holds;
         },
         tt,
@@ -65,7 +66,7 @@ module _ {rights : Role} {known : AskedBefore} where
   does-open_directory r of =
       with->>= (gives-own of) (λ n own.
       with->>= (gives-caller _ of.cred) (λ cred who.
-      does->>= (does-attempt (does-on cred n _ (acts-on _ who refl tt (own-object own)) (λ reply. refl))) (λ read.
+      does->>= (does-attempt (does-on cred n _ (acts-on _ who refl tt (own-object own)) (a-look (λ reply. refl) refl))) (λ read.
       does->>= (does-or_removed read) (λ may. does-take_directory cred.uid r.node))))
 
   pub does-close_directory : (handle : ℕ) → Does rights still known (close_directory handle)
@@ -79,8 +80,8 @@ module _ {rights : Role} {k : Nodes} {known : AskedBefore} where
   does-list_and_close : {n : ℕ} (handle : ℕ) → rights.handle ≡ None → IsOpened known handle n → Does rights k known (list_and_close handle)
   unfolding tell_names
   does-list_and_close handle alone opened =
-      does->>= (does-attempt (does->>= (does-obtain _ (may-list alone opened) tt (λ reply. refl)) (λ reply. forget (does-needed _ _)))) (λ names.
-      does->>= (does-ask _ (may-close alone opened) tt (λ reply. refl)) (λ closed. does-of_result names))
+      does->>= (does-attempt (does->>= (does-obtain _ (may-list alone opened) tt (a-look (λ reply. refl) refl)) (λ reply. forget (does-needed _ _)))) (λ names.
+      does->>= (does-ask _ (may-close alone opened) tt (a-look (λ reply. refl) refl)) (λ closed. does-of_result names))
 
 module _ {rights : Role} {k : Nodes} {known : AskedBefore} where
   does-list_opened : (event : Event) (opened : Result Reply RequestError) → rights.handle ≡ None → OkTo (λ past reply. WasGranted past event reply) known opened → Does rights k known (list_opened opened)
@@ -92,7 +93,7 @@ module _ {rights : Role} {k : Nodes} {known : AskedBefore} where
   does-list_all : (n : ℕ) → rights.handle ≡ None → About rights known n → Does rights k known (list_all n)
   unfolding list_all
   does-list_all n alone about =
-      then->>= (does-attempt (does-on server_credential n _ (looks-at (OpenCall [] listing 0) refl refl tt about) (λ reply. unopened [] listing 0 reply refl))) (λ opened now more asked. does-list_opened _ opened alone asked)
+      then->>= (does-attempt (does-on server_credential n _ (looks-at (OpenCall [] listing 0) refl refl tt about) (a-look (λ reply. unopened [] listing 0 reply refl) refl))) (λ opened now more asked. does-list_opened _ opened alone asked)
 
 module _ {rights : Role} {known : AskedBefore} (r : Asked) (of : IsFor rights r) (alone : rights.handle ≡ None) where
   does-list_now : (handle opened : ℕ) → Does rights still known (list_now r.node handle opened)
@@ -162,11 +163,11 @@ module _ {rights : Role} {known : AskedBefore} where
 
   pub does-sync_all : Does rights still known sync_all
   unfolding sync_all
-  does-sync_all = does->>= (does-obtain Sync (may-do tt tt) tt (λ reply. refl)) (λ done. does-give _)
+  does-sync_all = does->>= (does-obtain Sync (may-do tt tt) tt (a-look (λ reply. refl) refl)) (λ done. does-give _)
 
   pub does-count_space : Does rights still known count_space
   unfolding count_space
-  does-count_space = does->>= (does-obtain Statfs (may-do tt tt) tt (λ reply. refl)) (λ reply. does->>= (does-needed _ _) (λ free. does-kept _))
+  does-count_space = does->>= (does-obtain Statfs (may-do tt tt) tt (a-look (λ reply. refl) refl)) (λ reply. does->>= (does-needed _ _) (λ free. does-kept _))
 
   pub does-end : Does rights still known end
   unfolding end

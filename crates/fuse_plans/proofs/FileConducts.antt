@@ -20,7 +20,6 @@ use Rattle.fuse_protocol.specs.declared.operation.Extent.{Extent}
 use Rattle.fuse_protocol.specs.declared.reply.Time.{Time}
 use Rattle.fuse_state.specs.Servers.{Server}
 use Rattle.fuse_state.specs.Changes.{opened_or_made}
-use Rattle.fuse_state.proofs.Holders.{same_within}
 use Rattle.fuse_plans.specs.declared.mode.Mode.{Mode}
 use Rattle.fuse_plans.specs.declared.mode.Mode.TheVariants.{Reads, Writes, Both}
 use Rattle.fuse_plans.specs.declared.reply.ReplyBody.{ReplyBody}
@@ -36,10 +35,10 @@ use Rattle.fuse_plans.specs.FilePlans.{when, done, opener, asked_mode, touched_i
 use Rattle.fuse_plans.specs.Acts.{AskedBefore, StartsAt, given_name, IsGivenName}
 use Rattle.fuse_plans.specs.Alterations.{resizes, writes_open, adds_name, alterations_by_handle, AreTold}
 use Rattle.fuse_plans.specs.Conduct.{MayRun, to_run, is_close, releases, given}
-use Rattle.fuse_plans.proofs.Said.{Told, told-where_so, said-so, changing, unopened}
-use Rattle.fuse_plans.proofs.Roles.{Role, has-last, MayDo, may-do, doing}
+use Rattle.fuse_plans.proofs.Said.{Told, told-where_so, said-so, changing, adding, writing, unopened}
+use Rattle.fuse_plans.proofs.Roles.{Role, refused-unchanged, has-last, MayDo, may-do, doing}
 use Rattle.fuse_plans.proofs.PlanLaws.{Whatever}
-use Rattle.fuse_plans.proofs.Conducts.{Nodes, still, counted, SameAll, SameTimes, Fits, fits-now, fits-kept, fits-unmade, fits-made, DoesTo, Does, EndsTo, LastsTo, Lasts, left, gives, does-give, does-fail, does-kept, does-keep, does-needed, does-if, forget, then->>=, does->>=, does-attempt, does-lasts, lasts-then, lasts-with, lasts->>=}
+use Rattle.fuse_plans.proofs.Conducts.{Quiet, a-look, a-step, left-changed, spared, Nodes, still, counted, SameAll, SameTimes, Fits, fits-now, fits-next, fits-made, DoesTo, Does, EndsTo, LastsTo, Lasts, gives, does-give, does-fail, does-kept, does-keep, does-needed, does-if, forget, then->>=, does->>=, does-attempt, does-lasts, lasts-then, lasts-with, lasts->>=}
 use Rattle.fuse_plans.proofs.Calls.{do-later, run-later, WasGranted, granted-later, IsOpened, opened-told, About, was_told, concerns-about, acts-on, does-obtain, does-on, does-inside, does-replied_opened, does-or_closed, does-look, does-told_stamps, IsOwn, IsFor, own-object, gives-own, gives-caller}
 use Rattle.fuse_plans.proofs.NameConducts.{does-plain_name, does-new_valid, names-as, in-own}
 
@@ -54,7 +53,7 @@ module _ {rights : Role} {known : AskedBefore} {n : ℕ} (cred : Credential) (wh
   gives-asked : {k : Nodes} (runs : Bool)
       → DoesTo rights k known (λ past x. IsTrue runs → MayRun rights.cred past n) (when runs (done (on cred n (Access [] (perms_of 1)))))
   gives-asked true =
-      then->>= (does-on cred n _ (acts-on (Access [] (perms_of 1)) who refl tt about) (λ reply. refl)) (λ reply now more asked.
+      then->>= (does-on cred n _ (acts-on (Access [] (perms_of 1)) who refl tt about) (a-look (λ reply. refl) refl)) (λ reply now more asked.
       gives tt (λ past again so. run-later again (record { asker = actor_in cred n; is_who_asks = who; starts = refl; reply = reply; was_asked = asked.was; granted = asked.granted })))
   gives-asked false = gives tt (λ past more so. absurd (let no : false ≡ true = so in cc))
 
@@ -120,9 +119,8 @@ module _ {rights : Role} {known : AskedBefore} (now : Time) (cred : Credential) 
           (followed_by (of_object reply (refusal_in reply) s)
           (goes_on (λ reply. replied_opened reply >>= (λ opened. keep (touched_if (is_trunc flags) now n) >>= (λ touched. kept (opened_body opened.0))))))
       each past s fits (Opened handle o) = (
-        left (fits-kept (touched_if (is_trunc flags) now n) (λ within. same_within s _ (ap (λ k. k.0) (touched_if-same (is_trunc flags) now n s).0) within)
-            (ap (λ k. k.1) (touched_if-same (is_trunc flags) now n s).0) (touches rights (is_trunc flags) now n told) (touched_if-same (is_trunc flags) now n s).1
-            (fits-unmade (opened_as cred n flags mode) (Opened handle o) refl fits)),
+        left-changed (touched_if (is_trunc flags) now n) (opened_as cred n flags mode) (Opened handle o) refl (touched_if-same (is_trunc flags) now n)
+            (touches rights (is_trunc flags) now n told) fits,
         λ h kept_flags is. record {
           number = n;
           of_node = own;
@@ -134,8 +132,8 @@ module _ {rights : Role} {known : AskedBefore} (now : Time) (cred : Credential) 
           last = ap (λ body. ((opened_as cred n flags mode), Opened (handle_in_body handle body) o) ∷ past) is;
         },
       )
-      each past s fits (Refused refusal) = left (fits-unmade (opened_as cred n flags mode) (Refused refusal) refl fits)
-      each past s fits reply = left (fits-unmade (opened_as cred n flags mode) reply refl fits)
+      each past s fits (Refused refusal) = spared (fits-next _ _ refl (λ once. refused-unchanged _ refusal) fits)
+      each past s fits reply = spared (fits-next (opened_as cred n flags mode) reply refl (λ once changed. changed.fits) fits)
 
 module _ {rights : Role} {known : AskedBefore} where
   pub lasts-open_file : (r : Asked) → IsFor rights r → (flags : ℕ) → CutsTold rights (is_trunc flags) → LastsTo rights still known (Opens rights) (open_file r flags)
@@ -155,12 +153,12 @@ record IsFound (past : AskedBefore) (opened : Reply × Bool) : Type 0 where
   is_old : opened.1 ≡ false
 
 module _ {rights : Role} {k : Nodes} {known : AskedBefore} where
-  gives-found : (cred : Credential) (d : ℕ) (name : List ℕ) (mode : Mode) (flags : ℕ) (e : RequestError) → CutsTold rights (is_trunc flags) → rights.cred ≡ Some cred
+  gives-found : (cred : Credential) (d : ℕ) (name : List ℕ) (mode : Mode) (flags : ℕ) (e : RequestError) → CutsTold rights (is_trunc flags) → Told rights.subject.operation (adds_name name) → rights.cred ≡ Some cred
       → IsGivenName rights.subject d name → DoesTo rights k known IsFound (or_opened cred d name mode flags (Err e))
-  gives-found cred d name mode flags e told who in_it =
+  gives-found cred d name mode flags e told adds who in_it =
       does-if _ _ _
       (then->>= (does-inside cred d _ (names-as cred 0 _ who refl (told-where_so _ (is_trunc flags) _ told) in_it)
-      (λ reply. unopened name (opening (asked_mode flags mode) (is_trunc flags)) 0 reply refl)) (λ reply now more again.
+      (a-step (λ reply. unopened name (opening (asked_mode flags mode) (is_trunc flags)) 0 reply refl) (adding adds))) (λ reply now more again.
       gives (reply, false) (λ past later. record { event = _; asked = granted-later later again; is_old = refl })))
       (does-fail e)
 
@@ -195,7 +193,7 @@ module _ {rights : Role} (r : Asked) (of : IsFor rights r) (name : List ℕ) (fl
   lasts-or_found : {known : AskedBefore} (name_valid : ℕ) (cred : Credential) (d : ℕ) (mode : Mode) (e : RequestError) → rights.cred ≡ Some cred → IsGivenName rights.subject d name
       → Lasts rights known (or_opened cred d name mode flags (Err e) >>= (λ opened. replied_opened opened.0 >>= tell_created r.now name_valid d opened.1 (is_trunc flags)))
   lasts-or_found name_valid cred d mode e who in_it =
-      lasts-then (gives-found cred d name mode flags e told who in_it) (λ opened found_then more is.
+      lasts-then (gives-found cred d name mode flags e told adds who in_it) (λ opened found_then more is.
       lasts-then (does-replied_opened is.event opened.0 is.asked) (λ handle told_then again was. lasts-tell_found name_valid d opened.1 handle is.is_old was))
 
   module _ {known : AskedBefore} (name_valid : ℕ) (cred : Credential) (umask d : ℕ) (mode : Mode) (file_mode : ℕ) (who : rights.cred ≡ Some cred) (in_it : IsGivenName rights.subject d name) where
@@ -212,8 +210,10 @@ module _ {rights : Role} (r : Asked) (of : IsFor rights r) (name : List ℕ) (fl
             let is : IsOpened (((made_as cred umask d name mode file_mode), Opened handle n) ∷ past) handle n = record { event = (made_as cred umask d name mode file_mode); was = has-last past _ } in
             (does-lasts (does->>= {F = Whatever} (does-look_open {k = counted} handle n alone is) (λ seen. does-kept _))).goes _ _
             (fits-now (fits-made (opened_or_made r.now d n true (is_trunc flags)) (made_as cred umask d name mode file_mode) (Opened handle n) n adds (λ t. refl) refl refl fits))
-        each past s fits (Refused refusal) = (lasts-or_found name_valid cred d mode (Refuses refusal) who in_it).goes _ s (fits-now (fits-unmade (made_as cred umask d name mode file_mode) (Refused refusal) refl fits))
-        each past s fits reply = left (fits-unmade (made_as cred umask d name mode file_mode) reply refl fits)
+        each past s fits (Refused refusal) =
+            (lasts-or_found name_valid cred d mode (Refuses refusal) who in_it).goes _ s
+            (fits-now (fits-next (made_as cred umask d name mode file_mode) (Refused refusal) refl (λ once. adding adds once) fits))
+        each past s fits reply = spared (fits-next (made_as cred umask d name mode file_mode) reply refl (λ once. adding adds once) fits)
 
   pub lasts-create_file : {known : AskedBefore} (file_mode umask : ℕ) → given_name rights.subject.operation ≡ Some name
       → Lasts rights known (create_file r name flags file_mode umask)
@@ -229,8 +229,9 @@ module _ {rights : Role} (r : Asked) (of : IsFor rights r) (name : List ℕ) (fl
 module _ {rights : Role} {k : Nodes} {known : AskedBefore} where
   -- what is asked by the handle that is given
   pub by-given : (handle : ℕ) (call : HandleCall) → rights.handle ≡ Some handle → is_close call ≡ releases rights.subject.operation
-      → AreTold rights.subject.operation (alterations_by_handle handle call) → DoesTo rights k known (λ past reply. WasGranted past (CallBy handle call) reply) (obtain (CallBy handle call))
-  by-given handle call is closing told = does-obtain (CallBy handle call) (may-do (given is closing) told) tt (λ reply. refl)
+      → AreTold rights.subject.operation (alterations_by_handle handle call) → Quiet rights (CallBy handle call)
+      → DoesTo rights k known (λ past reply. WasGranted past (CallBy handle call) reply) (obtain (CallBy handle call))
+  by-given handle call is closing told quiet = does-obtain (CallBy handle call) (may-do (given is closing) told) tt quiet
 
 -- the handle that is given, and isn't released
 pub record IsKept (rights : Role) (handle : ℕ) : Type 0 where
@@ -240,16 +241,16 @@ pub record IsKept (rights : Role) (handle : ℕ) : Type 0 where
 module _ {rights : Role} {k : Nodes} {known : AskedBefore} where
   -- what doesn't close it
   pub by-kept : (handle : ℕ) (call : HandleCall) → IsKept rights handle → is_close call ≡ false
-      → AreTold rights.subject.operation (alterations_by_handle handle call) → DoesTo rights k known (λ past reply. WasGranted past (CallBy handle call) reply) (obtain (CallBy handle call))
-  by-kept handle call kept not_closed told = by-given handle call kept.is (not_closed ∙ kept.stays) told
+      → AreTold rights.subject.operation (alterations_by_handle handle call) → Quiet rights (CallBy handle call) → DoesTo rights k known (λ past reply. WasGranted past (CallBy handle call) reply) (obtain (CallBy handle call))
+  by-kept handle call kept not_closed told quiet = by-given handle call kept.is (not_closed ∙ kept.stays) told quiet
 
 module _ {rights : Role} {k : Nodes} {known : AskedBefore} where
   pub does-read_file : (extent : Extent) → IsKept rights extent.handle → Does rights k known (read_file extent)
   does-read_file extent is =
-      does->>= (by-kept extent.handle _ is refl tt) (λ reply. does->>= (does-needed _ _) (λ bytes. does-give _))
+      does->>= (by-kept extent.handle _ is refl tt (a-look (λ reply. refl) refl)) (λ reply. does->>= (does-needed _ _) (λ bytes. does-give _))
 
   pub does-close_file : (handle : ℕ) → rights.handle ≡ Some handle → true ≡ releases rights.subject.operation → Does rights k known (close_file handle)
-  does-close_file handle is closing = does->>= (by-given handle _ is closing tt) (λ closed. does-give _)
+  does-close_file handle is closing = does->>= (by-given handle _ is closing tt (a-look (λ reply. refl) refl)) (λ closed. does-give _)
 
   does-or_done : (done : ℕ) (wrote : Result ℕ RequestError) → Does rights k known (or_done done wrote)
   does-or_done done (Ok count) = does-give count
@@ -259,7 +260,7 @@ module _ {rights : Role} {k : Nodes} {known : AskedBefore} where
 module _ {rights : Role} {known : AskedBefore} (handle : ℕ) (is : IsKept rights handle) (told : Told rights.subject.operation (writes_open handle)) where
   does-write_piece : (offset : ℕ) (piece : List ℕ) → Does rights still known (write_piece handle offset piece)
   unfolding write_piece
-  does-write_piece offset piece = does->>= (by-kept handle _ is refl (told.is, tt)) (λ reply. forget (does-needed _ _))
+  does-write_piece offset piece = does->>= (by-kept handle _ is refl (told.is, tt) (a-step (λ reply. refl) (writing told))) (λ reply. forget (does-needed _ _))
 
   does-write_pieces : (offset done : ℕ) (pieces : List (List ℕ)) → Does rights still known (write_pieces handle offset done pieces)
   unfolding write_pieces
@@ -281,7 +282,7 @@ module _ {rights : Role} {known : AskedBefore} (handle : ℕ) (is : IsKept right
   does-touch_open_if : (keeps : Bool) (now : Time) → Does rights still known (touch_open_if keeps now handle)
   does-touch_open_if true now = does-give tt
   does-touch_open_if false now =
-      does->>= (by-kept handle _ is refl tt) (λ reply. does->>= (does-needed _ _) (λ status. does-keep _ (λ s. (refl, refl)) (changing told)))
+      does->>= (by-kept handle _ is refl tt (a-look (λ reply. refl) refl)) (λ reply. does->>= (does-needed _ _) (λ status. does-keep _ (λ s. (refl, refl)) (changing told)))
 
   does-touch_open : (now : Time) → Does rights still known (touch_open now handle)
   unfolding touch_open

@@ -3,7 +3,6 @@ pub mod AllEnds
 pub mod EachRun
 pub mod ListingLaws
 pub mod Said
-pub mod Looks
 pub mod Roles
 pub mod Conducts
 pub mod Calls
@@ -17,7 +16,6 @@ pub mod DueFirst
 pub mod KeptInTime
 pub mod ShareRuns
 pub mod AlterSteps
-pub mod AlterFailures
 pub mod RowsOfAlterations
 pub mod UsersAreGranted
 pub mod UsersCountAlone

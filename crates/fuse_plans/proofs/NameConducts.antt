@@ -2,7 +2,7 @@
 --     does-plain_name, does-find_inside, does-new_valid        pieces that other requests have too
 --     names-as        who asks may call on a name that is given
 --     lasts-made, lasts-made_closed        what is made is counted
---     does-find_name, lasts-make_link, ..        the requests
+--     does-find_name, lasts-make_link, lasts-remove, ..        the requests
 use Rattle.std.specs.Prelude.{◌≡◌, ℕ, Bool, true, false, if◌then◌else◌, List, ◌∷◌, Option, None, Some, Result, Ok, Err, IsTrue, bit_and}
 use Rattle.std.proofs.Common.{refl, sym, ap, ◌∙◌}
 use Rattle.fs_cred.specs.Credentials.{Credential}
@@ -15,6 +15,7 @@ use Rattle.fs_model.specs.declared.event.HandleCall.TheVariants as by_handle
 use Rattle.fs_model.specs.declared.reply.Reply.{Reply}
 use Rattle.fs_model.specs.declared.reply.Reply.TheVariants.{Made, Opened, Refused}
 use Rattle.fs_model.specs.declared.reply.Status.{Status}
+use Rattle.fuse_protocol.specs.declared.operation.Operation.{Operation}
 use Rattle.fuse_protocol.specs.declared.operation.Operation.TheVariants.{Rename, Link}
 use Rattle.fuse_protocol.specs.declared.reply.Time.{Time}
 use Rattle.fuse_state.specs.Servers.{Server, number_of_node}
@@ -27,16 +28,16 @@ use Rattle.fuse_plans.specs.Plans.{followed_by, KeepsTo}
 use Rattle.fuse_plans.specs.Works.{goes_on, ◌>>=◌, ask, give, fail, keep, give_unless, refusal_in, obtain, number_of_reply, replied_number, replied_opened}
 use Rattle.fuse_plans.specs.Flags.{making}
 use Rattle.fuse_plans.specs.Laws.{made_by}
-use Rattle.fuse_plans.specs.Callers.{server_credential, actor_at, actor_in}
+use Rattle.fuse_plans.specs.Callers.{inside, server_credential, actor_at, actor_in}
 use Rattle.fuse_plans.specs.NamePlans.{plain_name, directory_for, tell_named, or_absent, searched_directory, found_or_absent, find_inside, searcher, find_name, new_valid_if, new_valid, tell_made, make_by, make_link, make_directory, make_file, number_named_if, number_named, remove, none_there, nothing_to_replace, may_move, rename, move_name, link_as, add_link}
 use Rattle.fuse_plans.specs.Acts.{Subject, AskedBefore, given_name, IsObject, of_old_node, IsGivenName, IsNewName, is_new, path_of, on_name, on_new_name, moves, links}
 use Rattle.fuse_plans.specs.Conduct.{only_looks, MayCall, as_who_asks, as_server}
 use Rattle.fuse_plans.specs.Alterations.{adds_name, links_name, takes_name, moves_name, alterations_by, IsToldIn, AreTold}
-use Rattle.fuse_plans.proofs.Said.{Told, told-by, changing}
+use Rattle.fuse_plans.proofs.Said.{Told, told-by, said-so, changing, at_once_in, adding}
 use Rattle.fuse_plans.proofs.Roles.{Role, rights_in, has-last, MayDo, may-do, doing}
-use Rattle.fuse_plans.proofs.Conducts.{Nodes, still, counted, Fits, fits-now, fits-unmade, fits-made, EndsTo, left, does-lasts, SameAll, DoesTo, Does, Lasts, OkTo, gives, does-give, does-fail, does-kept, does-keep, does-if, does-weaker, then->>=, with->>=, does->>=, does-attempt, lasts-with, lasts->>=}
+use Rattle.fuse_plans.proofs.Conducts.{a-look, a-step, Nodes, still, counted, Fits, fits-now, fits-next, fits-quiet, fits-made, EndsTo, spared, does-lasts, SameAll, DoesTo, Does, Lasts, OkTo, gives, does-give, does-fail, does-kept, does-keep, does-if, does-weaker, then->>=, with->>=, does->>=, does-attempt, lasts-with, lasts->>=}
 use Rattle.fuse_plans.proofs.PlanLaws.{Whatever}
-use Rattle.fuse_plans.proofs.Calls.{do-later, IsOpened, About, an_object, was_told, opened-told, may-close, does-obtain, does-inside, does-look_inside, does-look, does-list_hides, does-told_stamps, IsOwn, IsFor, own-object, gives-own, gives-number, gives-caller}
+use Rattle.fuse_plans.proofs.Calls.{lasts-changed, do-later, IsOpened, About, an_object, was_told, opened-told, may-close, does-obtain, does-inside, does-look_inside, does-look, does-list_hides, does-told_stamps, IsOwn, IsFor, own-object, gives-own, gives-number, gives-caller}
 
 -- ---- what the server keeps
 
@@ -49,6 +50,10 @@ moved-same now d new None None s = (refl, refl)
 moved-same now d new None (Some k) s = (refl, refl)
 moved-same now d new (Some n) None s = (refl, refl)
 moved-same now d new (Some n) (Some k) s = (refl, refl)
+
+-- a LINK is shown after it was made
+linking : {o : Option Operation} {node : ℕ} {name : List ℕ} {A : Type 0} → o ≡ Some (Link node name) → at_once_in o ≡ true → A
+linking asked once = said-so (sym once ∙ ap at_once_in asked)
 
 -- ---- what is made
 
@@ -171,8 +176,8 @@ module _ {rights : Role} (r : Asked) (of : IsFor rights r) where
             (does-lasts (does-tell_named {k = counted} {known = (CallAt actor call, Made n) ∷ past} name_valid n
             (was_told (record { event = CallAt actor call; reply = Made n; was_asked = has-last past _; tells = refl })))).goes _ _
             (fits-now (fits-made (with_new_object r.now d n) (CallAt actor call) (Made n) n adds (λ t. refl) refl (makes (Made n)) fits))
-        each past s fits (Refused refusal) = left (fits-unmade _ _ (makes (Refused refusal)) fits)
-        each past s fits reply = left (fits-unmade _ _ (makes reply) fits)
+        each past s fits (Refused refusal) = spared (fits-next _ _ (makes (Refused refusal)) (λ once. adding adds once) fits)
+        each past s fits reply = spared (fits-next _ _ (makes reply) (λ once. adding adds once) fits)
 
     lasts-made_closed : {known : AskedBefore} (name_valid d : ℕ) (actor : Actor) (flags : Flags) (mode : ℕ) → flags.create ≡ true → rights.handle ≡ None
         → MayDo rights known (CallAt actor (OpenCall name flags mode))
@@ -190,10 +195,10 @@ module _ {rights : Role} (r : Asked) (of : IsFor rights r) where
             let made = fits-made (with_new_object r.now d n) (CallAt actor (OpenCall name flags mode)) (Opened handle n) n adds (λ t. refl) refl (ap (λ b. if b then Some n else None) creates) fits in (
               (may-close alone is, tt),
               λ closed. (does-lasts (does-tell_named {k = counted} name_valid n (was_told (opened-told is)))).goes _ _
-                  (fits-unmade (CallBy handle by_handle.Close) closed refl (fits-now made)),
+                  (fits-quiet (CallBy handle by_handle.Close) closed (a-look (λ reply. refl) refl) (fits-now made)),
             )
-        each past s fits (Refused refusal) = left (fits-unmade _ _ refl fits)
-        each past s fits reply = left (fits-unmade _ _ refl fits)
+        each past s fits (Refused refusal) = spared (fits-next _ _ refl (λ once. adding adds once) fits)
+        each past s fits reply = spared (fits-next _ _ refl (λ once. adding adds once) fits)
 
     lasts-make_by : {known : AskedBefore} (d umask : ℕ) (call : Call) → ((reply : Reply) → made_by call reply ≡ number_of_reply reply) → path_of call ≡ Some name
         → AreTold rights.subject.operation (alterations_by call) → IsOwn rights d → Lasts rights known (make_by r d umask call)
@@ -218,14 +223,14 @@ module _ {rights : Role} (r : Asked) (of : IsFor rights r) where
   module _ {known : AskedBefore} (name : List ℕ) (given : given_name rights.subject.operation ≡ Some name) where
     -- ---- names that go
 
-    pub does-remove : (call : List ℕ → Call) → path_of (call name) ≡ Some name → ((reply : Reply) → made_by (call name) reply ≡ None) → (IsToldIn rights.subject.operation (takes_name name) → AreTold rights.subject.operation (alterations_by (call name)))
-        → Told rights.subject.operation (takes_name name) → Does rights still known (remove r call name)
-    does-remove call path none says takes =
-        with->>= (gives-directory_for name given) (λ d own.
-        with->>= (gives-caller _ of.cred) (λ cred who.
-        does->>= (does-number_named d name (looks-named (in-own name given own))) (λ gone.
-        does->>= (does-inside cred d _ (names-as cred 0 (call name) who path (says takes.is) (in-own name given own)) none) (λ done.
-        does->>= (does-keep _ (removed-same r.now d gone) (changing takes)) (λ noted. does-give _)))))
+    pub lasts-remove : (call : List ℕ → Call) → path_of (call name) ≡ Some name → ((reply : Reply) → made_by (call name) reply ≡ None) → (IsToldIn rights.subject.operation (takes_name name) → AreTold rights.subject.operation (alterations_by (call name)))
+        → Told rights.subject.operation (takes_name name) → Lasts rights known (remove r call name)
+    unfolding inside
+    lasts-remove call path none says takes =
+        lasts-with (gives-directory_for name given) (λ d own.
+        lasts-with (gives-caller _ of.cred) (λ cred who.
+        lasts->>= (does-number_named d name (looks-named (in-own name given own))) (λ gone.
+        lasts-changed _ (names-as cred 0 (call name) who path (says takes.is) (in-own name given own)) tt none _ (removed-same r.now d gone) (changing takes) _)))
 
   -- ---- names that lead elsewhere
 
@@ -234,34 +239,34 @@ module _ {rights : Role} (r : Asked) (of : IsFor rights r) where
         → Does rights still known (nothing_to_replace flags cred d name)
     does-nothing_to_replace flags cred d name who renamed =
         does-if _ _ _ (does-give tt)
-        (does->>= (does-attempt (does-inside cred d _ (may-do (as_who_asks who, on_new_name d name (record { first = refl; second = refl }) renamed refl) tt) (λ reply. refl))) does-none_there)
+        (does->>= (does-attempt (does-inside cred d _ (may-do (as_who_asks who, on_new_name d name (record { first = refl; second = refl }) renamed refl) tt) (a-look (λ reply. refl) refl))) does-none_there)
 
-    does-rename : (cred : Credential) (d : ℕ) (name : List ℕ) (new : ℕ) (new_name : List ℕ) → rights.cred ≡ Some cred → IsGivenName rights.subject d name → IsNewName rights.subject new new_name
-        → Told rights.subject.operation (moves_name name new_name) → Does rights still known (rename r.now cred d name new new_name)
-    does-rename cred d name new new_name who given renamed told =
-        does->>= (does-number_named d name (looks-named given)) (λ object.
-        does->>= (does-number_named new new_name (looks-new renamed)) (λ replaced.
-        does->>= (does-obtain _ (may-do (as_who_asks who, moves name new_name refl given renamed) (told.is, tt)) tt (λ reply. refl)) (λ done.
-        does->>= (does-keep _ (moved-same r.now d new object replaced) (changing told)) (λ noted. does-give _))))
+    lasts-rename : (cred : Credential) (d : ℕ) (name : List ℕ) (new : ℕ) (new_name : List ℕ) → rights.cred ≡ Some cred → IsGivenName rights.subject d name → IsNewName rights.subject new new_name
+        → Told rights.subject.operation (moves_name name new_name) → Lasts rights known (rename r.now cred d name new new_name)
+    lasts-rename cred d name new new_name who given renamed told =
+        lasts->>= (does-number_named d name (looks-named given)) (λ object.
+        lasts->>= (does-number_named new new_name (looks-new renamed)) (λ replaced.
+        lasts-changed _ (may-do (as_who_asks who, moves name new_name refl given renamed) (told.is, tt)) tt (λ reply. refl) _ (moved-same r.now d new object replaced) (changing told) _))
 
   module _ {known : AskedBefore} where
-    pub does-move_name : (name : List ℕ) (new_node : ℕ) (new_name : List ℕ) (flags : ℕ) → rights.subject.operation ≡ Some (Rename name new_node new_name flags)
-        → Does rights still known (move_name r name new_node new_name flags)
-    does-move_name name new_node new_name flags asked =
-        does->>= (does-may_move name new_name flags) (λ may.
-        with->>= (gives-own of) (λ d own.
-        with->>= (gives-number new_node) (λ new was.
-        with->>= (gives-caller _ of.cred) (λ cred who.
-        does->>= (does-nothing_to_replace flags cred new new_name who (is_new name new_node flags asked was)) (λ none.
-        does-rename cred d name new new_name who (in-own name (ap given_name asked) own) (is_new name new_node flags asked was) (told-by asked (refl, refl)))))))
+    pub lasts-move_name : (name : List ℕ) (new_node : ℕ) (new_name : List ℕ) (flags : ℕ) → rights.subject.operation ≡ Some (Rename name new_node new_name flags)
+        → Lasts rights known (move_name r name new_node new_name flags)
+    lasts-move_name name new_node new_name flags asked =
+        lasts->>= (does-may_move name new_name flags) (λ may.
+        lasts-with (gives-own of) (λ d own.
+        lasts-with (gives-number new_node) (λ new was.
+        lasts-with (gives-caller _ of.cred) (λ cred who.
+        lasts->>= (does-nothing_to_replace flags cred new new_name who (is_new name new_node flags asked was)) (λ none.
+        lasts-rename cred d name new new_name who (in-own name (ap given_name asked) own) (is_new name new_node flags asked was) (told-by asked (refl, refl)))))))
 
     -- ---- one more name
 
-    does-link_as : (n d : ℕ) (name : List ℕ) → IsObject rights.subject n → IsGivenName rights.subject d name
-        → Told rights.subject.operation (links_name name) → Does rights still known (link_as r n d name)
-    does-link_as n d name object given told =
+    does-link_as : (old_node n d : ℕ) (name : List ℕ) → rights.subject.operation ≡ Some (Link old_node name) → IsObject rights.subject n → IsGivenName rights.subject d name
+        → Does rights still known (link_as r n d name)
+    does-link_as old_node n d name asked object given =
+        let told : Told rights.subject.operation (links_name name) = told-by asked refl in
         with->>= (gives-caller _ of.cred) (λ cred who.
-        does->>= (does-obtain _ (may-do (as_who_asks who, links name refl object given) (told.is, tt)) tt (λ reply. refl)) (λ done.
+        does->>= (does-obtain _ (may-do (as_who_asks who, links name refl object given) (told.is, tt)) tt (a-step (λ reply. refl) (linking asked))) (λ done.
         does->>= (does-keep (linked r.now d n) (λ s. (refl, refl)) (changing told)) (λ noted. does-tell_named 0 n (an_object object))))
 
   module _ {known : AskedBefore} where
@@ -269,4 +274,4 @@ module _ {rights : Role} (r : Asked) (of : IsFor rights r) where
     does-add_link old_node name asked =
         with->>= (gives-directory_for name (ap given_name asked)) (λ d own.
         with->>= (gives-number old_node) (λ n was.
-        does-link_as n d name (of_old_node old_node name asked was) (in-own name (ap given_name asked) own) (told-by asked refl)))
+        does-link_as old_node n d name asked (of_old_node old_node name asked was) (in-own name (ap given_name asked) own)))

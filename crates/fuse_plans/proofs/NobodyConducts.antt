@@ -15,8 +15,8 @@ use Rattle.fuse_plans.specs.Masks.{is_masked}
 use Rattle.fuse_plans.specs.Nobody.{unless_masked, is_judged, needs_nobody, asks_alone, is_granted, or_process, or_user, who_counts_in}
 use Rattle.fuse_plans.specs.Acts.{AskedBefore}
 use Rattle.fuse_plans.proofs.PlanLaws.{keeps-followed_by}
-use Rattle.fuse_plans.proofs.Roles.{Role, doing}
-use Rattle.fuse_plans.proofs.Conducts.{counted_in, still, begins, LeftTo, Does, does-give, with->>=, does->>=}
+use Rattle.fuse_plans.proofs.Roles.{Role, clean-nothing, doing}
+use Rattle.fuse_plans.proofs.Conducts.{counted_in, CleanIf, still, begins, LeftTo, Does, does-give, with->>=, does->>=}
 use Rattle.fuse_plans.proofs.Calls.{does-list_of, does-list_hides, does-look, own-object, gives-number}
 
 module _ {rights : Role} {known : AskedBefore} where
@@ -31,20 +31,20 @@ module _ {rights : Role} {known : AskedBefore} where
       does->>= (does-look n (own-object own)) (λ status.
       does->>= (does-list_of n AccessAcl (own-object own)) (λ acl. does-give _)))
 
--- nothing was made so far
+-- nothing was made so far, nor changed
 abbrev pub NoneMade : Role → {X : Type 0} → AskedBefore → X → Type 0
-NoneMade rights past x = counted_in past rights.subject.start.generations ≡ rights.subject.start.generations
+NoneMade rights past x = (counted_in past rights.subject.start.generations ≡ rights.subject.start.generations) × CleanIf rights past
 
 module _ (rights : Role) (s : Server) (start : rights.subject.start ≡ s) where
   keeps-answer : {X Y : Type 0} (w : Work X) (f : Result X RequestError → Y) (past : AskedBefore) → NoneMade rights past s → Does rights still [] w
       → KeepsTo (doing rights) (NoneMade rights) past (followed_by (w s) (λ r. Finish (f r.0)))
   keeps-answer {X} w f past none does =
       keeps-followed_by (doing rights) (LeftTo rights still [] (λ n x. Unit {0})) (NoneMade rights) (w s) (λ r. Finish (f r.0)) past
-      (does.goes past s (begins rights s start past none)) after
+      (does.goes past s (begins rights s start past none.0 none.1)) after
     where
       after : (n : AskedBefore) (r : Result X RequestError × Server) → LeftTo rights still [] (λ past x. Unit {0}) n r → NoneMade rights n (f r.0)
-      after n (Ok x, t) left = left.0.holds.1
-      after n (Err e, t) left = left.holds.1
+      after n (Ok x, t) left = (left.0.holds.1, left.0.clean)
+      after n (Err e, t) left = (left.holds.1, left.clean)
 
   keeps-is_judged : (judges : Bool) (past : AskedBefore) → NoneMade rights past s → KeepsTo (doing rights) (NoneMade rights) past (is_judged rights.subject.node judges s)
   keeps-is_judged false past none = none
@@ -64,8 +64,8 @@ module _ (rights : Role) (s : Server) (start : rights.subject.start ≡ s) where
   keeps-or_user false (Some want) uid past none = keeps-answer (is_granted rights.subject.node uid want) or_process past none (does-is_granted uid want)
 
   pub keeps-who_counts_in : (uid : ℕ) (operation : Option Operation) → KeepsTo (doing rights) (NoneMade rights) [] (who_counts_in rights.subject.node uid operation s)
-  keeps-who_counts_in uid None = refl
+  keeps-who_counts_in uid None = (refl, λ once. clean-nothing)
   keeps-who_counts_in uid (Some operation) =
       keeps-followed_by (doing rights) (NoneMade rights) (NoneMade rights) (needs_nobody rights.subject.node operation s)
-      (λ nobody. or_user nobody (asks_alone operation) rights.subject.node uid s) [] (keeps-needs_nobody operation [] refl)
+      (λ nobody. or_user nobody (asks_alone operation) rights.subject.node uid s) [] (keeps-needs_nobody operation [] (refl, λ once. clean-nothing))
       (λ n nobody none. keeps-or_user nobody (asks_alone operation) uid n none)

@@ -1,14 +1,16 @@
 -- What was asked for a request, and remembered, as the laws of runs have it.
 --     makings_are_counted        what is made
---     asked-in        what is remembered was asked
+--     asked-in, remembered        what is remembered was asked, and the other way round
+--     failures_change_nothing
 --     times_are_set_by_right
 --     opened_is_the_object
-use Rattle.std.specs.Prelude.{◌≡◌, ℕ, zero, suc, List, [], ◌∷◌, length, Option, IsTrue, ◌⊎◌}
+use Rattle.std.specs.Prelude.{◌≡◌, ℕ, true, zero, suc, List, [], ◌∷◌, length, Option, None, Some, is_some, IsTrue, ◌⊎◌}
 use Rattle.std.specs.List.{Contains}
-use Rattle.std.proofs.Common.{refl, subst, ◌∙◌, inl, inr, arith}
+use Rattle.std.proofs.Common.{refl, ap, subst, ◌∙◌, inl, inr, arith}
 use Rattle.posix_acl.specs.Entries.{perms_of}
 use Rattle.fs_cred.specs.Credentials.{Credential}
 use Rattle.fs_cred.specs.Ownership.{counts_as_owner}
+use Rattle.fs_cred.specs.declared.refusal.Refusal.{Refusal}
 use Rattle.fs_model.specs.declared.call.Call.TheVariants.{Lstat, Access}
 use Rattle.fs_model.specs.declared.event.Event.{Event}
 use Rattle.fs_model.specs.declared.event.Event.TheVariants.{CallAt, Stamp}
@@ -17,16 +19,18 @@ use Rattle.fs_model.specs.declared.reply.Reply.TheVariants.{Shown}
 use Rattle.fs_model.specs.declared.reply.Status.{Status}
 use Rattle.fuse_state.specs.Servers.{Server}
 use Rattle.fuse_plans.specs.declared.reply.ReplyBody.TheVariants.{Opened}
-use Rattle.fuse_plans.specs.declared.reply.Response.TheVariants.{Says}
+use Rattle.fuse_plans.specs.declared.reply.Response.TheVariants.{Says, Fails}
 use Rattle.fuse_plans.specs.Plans.{Plan, Finish, Ask, IsRunOf, IsAsked, at_once, later, after_all}
+use Rattle.fuse_plans.specs.Works.{refusal_in}
 use Rattle.fuse_plans.specs.Requests.{Request}
 use Rattle.fuse_plans.specs.Callers.{server_credential, actor_in}
 use Rattle.fuse_plans.specs.Acts.{AskedBefore}
-use Rattle.fuse_plans.specs.Laws.{makings_counted, MakingsAreCounted, OpenedObject, OpenedIsTheObject}
+use Rattle.fuse_plans.specs.Laws.{FailuresChangeNothing, makings_counted, MakingsAreCounted, OpenedObject, OpenedIsTheObject}
 use Rattle.fuse_plans.specs.TimeLaws.{MaySet, owns, may_write, TimesAreSetByRight}
 use Rattle.fuse_plans.specs.Serving.{request_plan}
 use Rattle.fuse_plans.proofs.PlanLaws.{may_at}
-use Rattle.fuse_plans.proofs.Roles.{Role, role_of, MaySetBy, owns_it, writes_it, doing}
+use Rattle.fuse_plans.proofs.Said.{at_once_in}
+use Rattle.fuse_plans.proofs.Roles.{has-last, has-later, Role, role_of, MaySetBy, owns_it, writes_it, doing}
 use Rattle.fuse_plans.proofs.Conducts.{counted_in}
 use Rattle.fuse_plans.proofs.FileConducts.{OpenedHere}
 use Rattle.fuse_plans.proofs.RequestConducts.{Told, past_of, run-does, run-leaves}
@@ -68,6 +72,28 @@ none-before was = absurd (omega (arith, was.1))
 asked-of : (rights : Role) (es : List Event) (replies : List Reply) (e : Event) (reply : Reply) → Contains (after_all (doing rights) [] es replies) (e, reply)
     → WasAsked e reply es replies
 asked-of rights es replies e reply was = elim (asked-in rights [] es replies e reply was) [ inl none ↦ none-before none | inr asked ↦ asked ]
+
+-- what was asked is remembered
+stays-in : (rights : Role) (past : AskedBefore) (es : List Event) (replies : List Reply) (x : Event × Reply) → Contains past x → Contains (after_all (doing rights) past es replies) x
+stays-in rights past [] replies x was = was
+stays-in rights past (e ∷ es) [] x was = was
+stays-in rights past (e ∷ es) (reply ∷ replies) x was = stays-in rights ((e, reply) ∷ past) es replies x (has-later past x (e, reply) was)
+
+remembered : {e : Event} {reply : Reply} {after es : List Event} {replies : List Reply} (rights : Role) (past : AskedBefore) → IsAsked e reply after es replies
+    → Contains (after_all (doing rights) past es replies) (e, reply)
+remembered {e} {reply} {after} rights past (at_once rest) = stays-in rights ((e, reply) ∷ past) after rest (e, reply) (has-last past (e, reply))
+remembered rights past (later f other es replies asked) = remembered rights ((f, other) ∷ past) asked
+
+-- ---- what changes
+
+pub failures_change_nothing : FailuresChangeNothing
+failures_change_nothing r s t operation e es replies asked reply after is once runs was fits says = choose (refusal_in reply) refl
+  where
+    choose : (o : Option Refusal) → refusal_in reply ≡ o → is_some o ≡ true
+    choose (Some refusal) refused = refl
+    choose None granted =
+        let clean = (run-does r s es replies (Fails e, t) runs).1.1 (ap at_once_in is ∙ once) in
+        absurd (clean.none asked reply (remembered (role_of r s) [] was) (record { says = says; granted = granted; fits = fits }))
 
 -- ---- times
 

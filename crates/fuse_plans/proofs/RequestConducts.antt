@@ -35,12 +35,12 @@ use Rattle.fuse_plans.specs.Laws.{handle_of_operation, handle_in, rights_of, End
 use Rattle.fuse_plans.proofs.PlanLaws.{Whatever, IfReplies, replies-told, keeps-followed_by, keeps-follows}
 use Rattle.fuse_plans.proofs.Said.{told-by}
 use Rattle.fuse_plans.proofs.Roles.{Role, rights_in, role_of, doing}
-use Rattle.fuse_plans.proofs.Conducts.{still, begins, Left, EndsTo, LastsTo, left, does-fail, does-lasts, lasts->>=}
+use Rattle.fuse_plans.proofs.Conducts.{CleanIf, spared, still, begins, Left, EndsTo, LastsTo, left, does-fail, does-lasts, lasts->>=}
 use Rattle.fuse_plans.proofs.Calls.{IsFor, does-tell_time}
 use Rattle.fuse_plans.proofs.NobodyConducts.{NoneMade, keeps-who_counts_in}
-use Rattle.fuse_plans.proofs.NameConducts.{does-find_name, lasts-make_link, lasts-make_directory, lasts-make_file, does-remove, does-move_name, does-add_link}
+use Rattle.fuse_plans.proofs.NameConducts.{does-find_name, lasts-make_link, lasts-make_directory, lasts-make_file, lasts-remove, lasts-move_name, does-add_link}
 use Rattle.fuse_plans.proofs.FileConducts.{IsKept, Opens, lasts-open_file, lasts-create_file, does-read_file, does-write_file, does-close_file}
-use Rattle.fuse_plans.proofs.AttributeConducts.{HandleIs, does-get_attributes, does-set_attributes, does-read_link, does-ask_access, does-get_xattr, does-list_xattrs, does-set_xattr, does-remove_xattr}
+use Rattle.fuse_plans.proofs.AttributeConducts.{HandleIs, does-get_attributes, does-set_attributes, does-read_link, does-ask_access, does-get_xattr, does-list_xattrs, lasts-set_xattr, lasts-remove_xattr}
 use Rattle.fuse_plans.proofs.DirectoryConducts.{does-open_directory, does-read_directory, does-close_directory, does-read_directory_plus, does-begin, does-sync_all, does-count_space, does-end}
 
 -- what is known of the body: of an OPEN, what was opened
@@ -76,9 +76,9 @@ module _ (rights : Role) (r : Asked) (of : IsFor rights r) where
   lasts-plan value (SymLink name target) asked given = lasts-make_link r of name (gives_name _ asked name refl) (told-by asked refl) target
   lasts-plan value (MkNod name mode umask) asked given = lasts-make_file r of name (gives_name _ asked name refl) (told-by asked refl) mode umask given
   lasts-plan value (MkDir name mode umask) asked given = lasts-make_directory r of name (gives_name _ asked name refl) (told-by asked refl) mode umask
-  lasts-plan value (Unlink name) asked given = does-lasts (does-remove r of name (gives_name _ asked name refl) (removal false) refl (λ reply. refl) (λ takes. (takes, tt)) (told-by asked refl))
-  lasts-plan value (RmDir name) asked given = does-lasts (does-remove r of name (gives_name _ asked name refl) (removal true) refl (λ reply. refl) (λ takes. (takes, tt)) (told-by asked refl))
-  lasts-plan value (Rename name new_directory new_name flags) asked given = does-lasts (does-move_name r of name new_directory new_name flags asked)
+  lasts-plan value (Unlink name) asked given = lasts-remove r of name (gives_name _ asked name refl) (removal false) refl (λ reply. refl) (λ takes. (takes, tt)) (told-by asked refl)
+  lasts-plan value (RmDir name) asked given = lasts-remove r of name (gives_name _ asked name refl) (removal true) refl (λ reply. refl) (λ takes. (takes, tt)) (told-by asked refl)
+  lasts-plan value (Rename name new_directory new_name flags) asked given = lasts-move_name r of name new_directory new_name flags asked
   lasts-plan value (Link node name) asked given = does-lasts (does-add_link r of node name asked)
   lasts-plan value (Open flags) asked given = lasts-open_file r of flags.0 (λ is. told-by asked (is, refl))
   lasts-plan value (Read extent) asked given = does-lasts (does-read_file extent (kept_handle rights _ asked refl _ given))
@@ -86,10 +86,10 @@ module _ (rights : Role) (r : Asked) (of : IsFor rights r) where
   lasts-plan value StatFs asked given = does-lasts does-count_space
   lasts-plan value (Release handle) asked given = does-lasts (does-close_file handle given (sym (ap releases asked)))
   lasts-plan value (FSync handle) asked given = does-lasts does-sync_all
-  lasts-plan value (SetXAttr name bytes) asked given = does-lasts (does-set_xattr r of name bytes value asked)
+  lasts-plan value (SetXAttr name bytes) asked given = lasts-set_xattr r of name bytes value asked
   lasts-plan value (GetXAttr name size) asked given = does-lasts (does-get_xattr r of name size)
   lasts-plan value (ListXAttr size) asked given = does-lasts (does-list_xattrs r of size)
-  lasts-plan value (RemoveXAttr name) asked given = does-lasts (does-remove_xattr r of name asked)
+  lasts-plan value (RemoveXAttr name) asked given = lasts-remove_xattr r of name asked
   lasts-plan value (Init offer) asked given = does-lasts (does-begin offer)
   lasts-plan value OpenDir asked given = does-lasts (does-open_directory r of)
   lasts-plan value (ReadDir extent) asked given = does-lasts (does-read_directory r of given extent)
@@ -114,15 +114,16 @@ module _ (rights : Role) (r : Asked) (of : IsFor rights r) where
 -- so the request ends
 abbrev pub Ended : Role → Option Operation → AskedBefore → Response × Server → Type 0
 Ended rights o past (Says body, s) = Left rights past s × Told rights o past body
-Ended rights o past (_, s) = Left rights past s
+Ended rights o past (Fails e, s) = Left rights past s × CleanIf rights past
+Ended rights o past (Silence, s) = Left rights past s
 
 keeps-answered : (rights : Role) (o : Option Operation) (s : Server) → rights.subject.start ≡ s → (memory : Bool) (task : Task) → LastsIfAny rights o task
     → (past : AskedBefore) → NoneMade rights past s → KeepsTo (doing rights) (Ended rights o) past (answered memory task s)
-keeps-answered rights o s start memory Silent lasts past none = left (begins rights s start past none)
-keeps-answered rights o s start false (Replying w) lasts past none = left (begins rights s start past none)
+keeps-answered rights o s start memory Silent lasts past none = left (begins rights s start past none.0 none.1)
+keeps-answered rights o s start false (Replying w) lasts past none = spared (begins rights s start past none.0 none.1)
 keeps-answered rights o s start true (Replying w) lasts past none =
     keeps-followed_by (doing rights) (EndsTo rights (Told rights o)) (Ended rights o) (w s) (λ r. Finish (response_of r.0, r.1)) past
-    (lasts.goes past s (begins rights s start past none)) answer
+    (lasts.goes past s (begins rights s start past none.0 none.1)) answer
   where
     answer : (n : AskedBefore) (r : Result ReplyBody RequestError × Server) → EndsTo rights (Told rights o) n r → Ended rights o n (response_of r.0, r.1)
     answer n (Ok body, t) ends = ends
@@ -139,7 +140,7 @@ requests_last r s =
 
 pub left-so : (rights : Role) (o : Option Operation) (past : AskedBefore) (q : Response × Server) → Ended rights o past q → Left rights past q.1
 left-so rights o past (Says body, s) ends = ends.0
-left-so rights o past (Fails e, s) ends = ends
+left-so rights o past (Fails e, s) ends = ends.0
 left-so rights o past (Silence, s) ends = ends
 
 -- ---- how they behave

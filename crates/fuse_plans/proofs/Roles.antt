@@ -2,19 +2,21 @@
 --     Role, rights_in, role_of        for whom it is done, on what and when
 --     Extends        what was asked before stays asked
 --     IsShown, MaySetBy, Rightly        why times may be set, by what was asked
+--     HasChanged, Clean        nothing has changed so far
 --     MayDo        what may be asked, and changes no more than the request says
 --     ByRight, doing        it sets times by right
-use Rattle.std.specs.Prelude.{◌≡◌, ℕ, suc, [], ◌∷◌, Option, None, Some, IsTrue}
+use Rattle.std.specs.Prelude.{◌≡◌, ◌≢◌, ℕ, zero, suc, [], ◌∷◌, Option, None, Some, IsTrue}
 use Rattle.std.specs.List.{Contains}
-use Rattle.std.proofs.Common.{refl, arith}
+use Rattle.std.proofs.Common.{refl, sym, subst, arith}
 use Rattle.posix_acl.specs.Entries.{perms_of}
 use Rattle.fs_cred.specs.Credentials.{Credential}
 use Rattle.fs_cred.specs.Ownership.{counts_as_owner}
+use Rattle.fs_cred.specs.declared.refusal.Refusal.{Refusal}
 use Rattle.fs_model.specs.declared.call.Call.TheVariants.{Lstat, Access}
 use Rattle.fs_model.specs.declared.event.Event.{Event}
 use Rattle.fs_model.specs.declared.event.Event.TheVariants.{CallAt, Stamp}
 use Rattle.fs_model.specs.declared.reply.Reply.{Reply}
-use Rattle.fs_model.specs.declared.reply.Reply.TheVariants.{Shown}
+use Rattle.fs_model.specs.declared.reply.Reply.TheVariants.{Shown, Refused}
 use Rattle.fs_model.specs.declared.reply.Status.{Status}
 use Rattle.fuse_protocol.specs.declared.reply.Time.{Time}
 use Rattle.fuse_state.specs.Servers.{Server}
@@ -23,10 +25,10 @@ use Rattle.fuse_plans.specs.Plans.{Restraint}
 use Rattle.fuse_plans.specs.Works.{refusal_in}
 use Rattle.fuse_plans.specs.Callers.{server_credential, actor_in}
 use Rattle.fuse_plans.specs.Acts.{Subject, AskedBefore}
-use Rattle.fuse_plans.specs.Alterations.{sets_some, MayBeAsked}
+use Rattle.fuse_plans.specs.Alterations.{alterations_in, sets_some, MayBeAsked}
 use Rattle.fuse_plans.specs.Conduct.{Rights, MayAsk}
 use Rattle.fuse_plans.specs.Requests.{Request}
-use Rattle.fuse_plans.specs.Laws.{handle_in, subject_of}
+use Rattle.fuse_plans.specs.Laws.{handle_in, subject_of, IsReplyTo}
 use Rattle.fuse_plans.specs.TimeLaws.{IsPresent}
 
 -- ---- for whom, on what and when
@@ -52,7 +54,7 @@ pub record Extends (old new : AskedBefore) : Type 0 where
 pub has-last : (past : AskedBefore) (x : Event × Reply) → Contains (x ∷ past) x
 has-last past x = (0, omega arith, refl)
 
-has-later : (past : AskedBefore) (x y : Event × Reply) → Contains past x → Contains (y ∷ past) x
+pub has-later : (past : AskedBefore) (x y : Event × Reply) → Contains past x → Contains (y ∷ past) x
 has-later past x y (k, lt, is) = (suc k, omega (arith, lt), is)
 
 pub extends-itself : (past : AskedBefore) → Extends past past
@@ -94,6 +96,31 @@ pub sets-later : {now : Time} {old new : AskedBefore} {n : ℕ} {cred : Credenti
     → MaySetBy now old n cred is_owner atime mtime → MaySetBy now new n cred is_owner atime mtime
 sets-later more (owns_it is) = owns_it is
 sets-later more (writes_it reply a m was granted) = writes_it reply a m (more.has _ _ was) granted
+
+-- ---- what changes
+
+-- the event may have changed something
+pub record HasChanged (e : Event) (reply : Reply) : Type 0 where
+  pub says : alterations_in e ≢ []
+  pub granted : refusal_in reply ≡ None
+  pub fits : IsReplyTo e reply
+
+-- nothing has changed so far
+pub record Clean (past : AskedBefore) : Type 0 where
+  pub none : (e : Event) (reply : Reply) → Contains past (e, reply) → HasChanged e reply → ⊥
+
+pub clean-nothing : Clean []
+clean-nothing = record { none = λ e reply was changed. absurd (omega (arith, was.1)) }
+
+pub clean-more : {past : AskedBefore} (f : Event) (other : Reply) → (HasChanged f other → ⊥) → Clean past → Clean ((f, other) ∷ past)
+clean-more {past} f other unchanged clean = record { none = each }
+  where
+    each : (e : Event) (reply : Reply) → Contains ((f, other) ∷ past) (e, reply) → HasChanged e reply → ⊥
+    each e reply (zero, lt, is) changed = unchanged (subst (λ (x : Event × Reply). HasChanged x.0 x.1) (sym is) changed)
+    each e reply (suc k, lt, is) changed = clean.none e reply (k, omega (arith, lt), is) changed
+
+pub refused-unchanged : (e : Event) (refusal : Refusal) → HasChanged e (Refused refusal) → ⊥
+refused-unchanged e refusal changed = let no : Some refusal ≡ None = changed.granted in cc
 
 -- ---- what may be asked
 

@@ -1,8 +1,9 @@
 -- What requests say that they change.
---     changes_none, Told, told-where_so, told-two, told-by        alterations that are told
+--     Told, told-where_so, told-two, told-by        alterations that are told
 --     said-so, others_change_nothing, changing        a request that says no change tells none
+--     at_once_in, adding, writing        requests that change all by one call
 --     unopened        what is opened and not made
-use Rattle.std.specs.Prelude.{◌≡◌, ℕ, Bool, true, false, List, [], ◌∷◌, ◌++◌, Option, None, Some, IsFalse, if◌then◌else◌}
+use Rattle.std.specs.Prelude.{◌≡◌, ℕ, Bool, true, false, List, ◌++◌, Option, None, Some, IsFalse, if◌then◌else◌}
 use Rattle.std.proofs.Common.{refl, sym, ap, subst, ◌∙◌}
 use Rattle.fs_model.specs.declared.call.Call.TheVariants.{Open as OpenCall}
 use Rattle.fs_model.specs.declared.call.Flags.{Flags}
@@ -10,15 +11,10 @@ use Rattle.fs_model.specs.declared.reply.Reply.{Reply}
 use Rattle.fs_model.specs.declared.reply.Reply.TheVariants.{Opened as OpenedBy}
 use Rattle.fuse_protocol.specs.declared.operation.Operation.{Operation}
 use Rattle.fuse_protocol.specs.declared.operation.Operation.TheVariants.{SetAttr, SymLink, MkNod, MkDir, Unlink, RmDir, Rename, Link, Open, Write, SetXAttr, RemoveXAttr, Create}
-use Rattle.fuse_plans.specs.Alterations.{Alteration, resizes, where_so, says_change, says_change_in, IsToldIn, IsToldBy, AreTold}
+use Rattle.fuse_plans.specs.Alterations.{Alteration, adds_name, writes_open, changes_at_once, resizes, where_so, says_change, says_change_in, IsToldIn, IsToldBy, AreTold}
 use Rattle.fuse_plans.specs.Laws.{OthersChangeNothing, made_by}
 
 -- ---- what is told
-
--- what is told of no request is nothing
-pub changes_none : (list : List Alteration) → AreTold None list → list ≡ []
-changes_none [] told = refl
-changes_none (alteration ∷ others) told = absurd (told.0)
 
 -- a request tells it
 pub record Told (o : Option Operation) (alteration : Alteration) : Type 0 where
@@ -67,6 +63,33 @@ others_change_nothing (Some operation) alteration none told = says-nothing opera
 -- what tells one says a change
 pub changing : {o : Option Operation} {alteration : Alteration} {A : Type 0} → Told o alteration → IsFalse (says_change_in o) → A
 changing {o} {alteration} told none = absurd (others_change_nothing o alteration none told.is)
+
+-- ---- requests that change all by one call
+
+abbrev pub at_once_in : Option Operation → Bool
+at_once_in None = false
+at_once_in (Some operation) = changes_at_once operation
+
+no-adding : (o : Option Operation) (name : List ℕ) → IsToldIn o (adds_name name) → at_once_in o ≡ false
+no-adding (Some (SymLink path target)) name told = refl
+no-adding (Some (MkNod path mode umask)) name told = refl
+no-adding (Some (MkDir path mode umask)) name told = refl
+no-adding (Some (Create path flags mode umask)) name told = refl
+no-adding (Some _) name told = absurd told
+no-adding None name told = absurd told
+
+-- one that makes something doesn't
+pub adding : {o : Option Operation} {name : List ℕ} {A : Type 0} → Told o (adds_name name) → at_once_in o ≡ true → A
+adding {o} {name} told once = said-so (sym once ∙ no-adding o name told.is)
+
+no-writing : (o : Option Operation) (handle : ℕ) → IsToldIn o (writes_open handle) → at_once_in o ≡ false
+no-writing (Some (Write open_handle offset bytes)) handle told = refl
+no-writing (Some _) handle told = absurd told
+no-writing None handle told = absurd told
+
+-- nor does a WRITE
+pub writing : {o : Option Operation} {handle : ℕ} {A : Type 0} → Told o (writes_open handle) → at_once_in o ≡ true → A
+writing {o} {handle} told once = said-so (sym once ∙ no-writing o handle told.is)
 
 -- what is opened and not made
 pub unopened : (path : List ℕ) (flags : Flags) (mode : ℕ) (reply : Reply) → flags.create ≡ false → made_by (OpenCall path flags mode) reply ≡ None

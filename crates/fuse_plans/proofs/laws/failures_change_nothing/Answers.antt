@@ -1,4 +1,4 @@
-use Rattle.fuse_plans.proofs.AlterFailures.{failures_change_nothing}
+use Rattle.fuse_plans.proofs.RecordedRequests.{failures_change_nothing}
 use Rattle.fuse_plans.proofs.AlterSteps.{openings_are_told}
 use Rattle.fuse_plans.proofs.laws.failures_change_nothing.Goals as goal
 
