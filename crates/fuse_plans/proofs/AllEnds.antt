@@ -23,8 +23,5 @@ all-followed_by P Q (Ask e next) f ends rest = λ reply. all-followed_by P Q (ne
 -- also of that of a run
 pub all-run : {X : Type 0} (P : X → Type 0) (p : Plan X) (es : List Event) (replies : List Reply) (x : X) → AllEnd P p → IsRunOf p es replies x → P x
 all-run P (Finish y) [] [] x ends runs = subst P (sym runs) ends
-all-run P (Finish y) [] (reply ∷ replies) x ends runs = elim runs [ ]
-all-run P (Finish y) (e ∷ es) replies x ends runs = elim runs [ ]
-all-run P (Ask e next) [] replies x ends runs = elim runs [ ]
-all-run P (Ask e next) (f ∷ es) [] x ends runs = elim runs [ ]
 all-run P (Ask e next) (f ∷ es) (reply ∷ replies) x ends runs = all-run P (next reply) es replies x (ends reply) runs.1
+all-run P p es replies x ends runs = elim runs [ ]

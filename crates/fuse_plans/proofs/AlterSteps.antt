@@ -10,10 +10,10 @@ use Rattle.fs_cred.specs.declared.refusal.Refusal.{Refusal}
 use Rattle.fs_layout.specs.Maps.{get}
 use Rattle.fs_model.specs.declared.call.AclType.TheVariants.{Access as AccessAcl, Default}
 use Rattle.fs_model.specs.declared.call.Call.{Call}
-use Rattle.fs_model.specs.declared.call.Call.TheVariants.{Open, Read, Write, Lseek, Close, Fstat, Stat, Lstat, Access, Truncate, Ftruncate, Chmod, Chown, GetAcl, SetAcl, Readdir, Mkdir, Rmdir, Link as LinkCall, Symlink, Readlink, Unlink, Rename, Chdir, Umask}
+use Rattle.fs_model.specs.declared.call.Call.TheVariants.{Open, Write, Truncate, Ftruncate, Chmod, Chown, SetAcl, Mkdir, Rmdir, Link as LinkCall, Symlink, Unlink, Rename}
 use Rattle.fs_model.specs.declared.call.Flags.{Flags}
 use Rattle.fs_model.specs.declared.event.Event.{Event}
-use Rattle.fs_model.specs.declared.event.Event.TheVariants.{Spawn, Exit, Call as Calls, CallAt, CallBy, Stamp, Clock, Fsync, Sync, Statfs, Arm, Restart}
+use Rattle.fs_model.specs.declared.event.Event.TheVariants.{Call as Calls, CallAt, CallBy, Stamp}
 use Rattle.fs_model.specs.declared.event.HandleCall.{HandleCall}
 use Rattle.fs_model.specs.declared.event.HandleCall.TheVariants as by_handle
 use Rattle.fs_model.specs.declared.reply.Reply.{Reply}
@@ -143,28 +143,18 @@ says : (c : Scene) (call : Call) (number : ℕ) → AreMet ((row_of call).demand
     → AltersOnly (alterations_by call) c.state.tree ((row_of call).effect c number).change
 unfolding row_of
 says c (Open path flags mode) number met = opens flags mode path c number met
-says c (Read fd len) number met = tt
 says c (Write fd []) number met = tt
 says c (Write fd (b ∷ bytes)) number met = keeps_bytes _ _ _ _ _ _ refl
-says c (Lseek fd whence by) number met = tt
-says c (Close fd) number met = tt
-says c (Fstat fd) number met = tt
-says c (Stat path) number met = tt
-says c (Lstat path) number met = tt
-says c (Access path want) number met = tt
 says c (Truncate path size) number met = keeps_bytes _ _ _ _ _ _ refl
 says c (Ftruncate fd size) number met = keeps_bytes _ _ _ _ _ _ refl
 says c (Chmod path mode) number met = keeps_mode _ _ _ _ c.process.cred mode _ refl
 says c (Chown path owner group) number met = keeps_owners owner group _
-says c (GetAcl path which) number met = tt
 says c (SetAcl path AccessAcl acl) number met = keeps_access _ _ _ _ acl _ refl
 says c (SetAcl path Default acl) number met = keeps_default _ _ _ _ acl _ refl
-says c (Readdir fd) number met = tt
 says c (Mkdir path mode) number met = refl
 says c (Rmdir path) number met = refl
 says c (LinkCall old new) number met = refl
 says c (Symlink target path) number met = refl
-says c (Readlink path) number met = tt
 says c (Unlink path) number met = refl
 says c (Rename old new) number met = moves (is_same c) _ _ _ _
   where
@@ -172,19 +162,15 @@ says c (Rename old new) number met = moves (is_same c) _ _ _ _
         → AltersOnly (alterations_by (Rename old new)) c.state.tree (if same then Same else MoveName directory name to_directory to_name)
     moves true directory name to_directory to_name = tt
     moves false directory name to_directory to_name = refl
-says c (Chdir path) number met = tt
-says c (Umask mask) number met = tt
+says c call number met = tt
 
 -- by a handle
 says_by : (c : Scene) (handle : ℕ) (call : HandleCall) (number : ℕ) → AltersOnly (alterations_by_handle handle call) c.state.tree ((handle_call_row call).effect c number).change
 unfolding handle_call_row
-says_by c handle (by_handle.Read offset len) number = tt
 says_by c handle (by_handle.Write offset []) number = tt
 says_by c handle (by_handle.Write offset (b ∷ bytes)) number = keeps_bytes _ _ _ _ _ _ refl
 says_by c handle (by_handle.Resize size) number = keeps_bytes _ _ _ _ _ _ refl
-says_by c handle by_handle.Show number = tt
-says_by c handle by_handle.List number = tt
-says_by c handle by_handle.Close number = tt
+says_by c handle call number = tt
 
 -- ---- each event
 
@@ -195,18 +181,11 @@ says_call s pid call number (Some p) none = says (scene_of s p (row_of call)) ca
 
 says_event : (s : State) (e : Event) (choice : Choice) → other_refusal s e ≡ None → AltersOnly (alterations_in e) s.tree (after s e choice).change
 unfolding other_refusal after
-says_event s (Spawn cred) choice none = tt
-says_event s (Exit pid) choice none = tt
 says_event s (Calls pid call) choice none = says_call s pid call choice.ino (get nat_cmp s.processes pid) none
 says_event s (CallAt actor call) choice none = says (actor_scene s actor (row_of call)) call choice.ino (actor_demands s actor call (row_of call) none)
 says_event s (CallBy handle call) choice none = says_by (scene_of s (doer s.openings handle call) (handle_call_row call)) handle call choice.ino
 says_event s (Stamp n atime mtime ctime) choice none = keeps_times n s.room.keeps_times atime mtime ctime (the_node s.tree n)
-says_event s (Clock now) choice none = tt
-says_event s (Fsync pid fd) choice none = tt
-says_event s Sync choice none = tt
-says_event s Statfs choice none = tt
-says_event s (Arm after) choice none = tt
-says_event s (Restart choices arm) choice none = tt
+says_event s e choice none = tt
 
 answered_so : (old new : State) (e : Event) (reply : Reply) → Answers old e reply new → LeavesUnsaid (alterations_in e) old new
 answered_so old new e reply (is_halted halted said same) = stays (ap (λ s. s.tree) same)

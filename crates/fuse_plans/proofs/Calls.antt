@@ -122,10 +122,6 @@ pub data About (rights : Role) (past : AskedBefore) (n : ℕ) : Type 0 where
   an_object : IsObject rights.subject n → About rights past n
   was_told : IsToldOf past n → About rights past n
 
-pub about-later : {rights : Role} {old new : AskedBefore} {n : ℕ} → Extends old new → About rights old n → About rights new n
-about-later more (an_object object) = an_object object
-about-later more (was_told told) = was_told (told-later more told)
-
 -- a call by an actor in one place acts on the object there
 pub concerns-about : {rights : Role} {past : AskedBefore} {n : ℕ} (cred : Credential) (call : Call) → path_of call ≡ Some [] → About rights past n
     → Concerns rights.subject past (actor_in cred n) call

@@ -16,7 +16,7 @@ use Rattle.fuse_state.proofs.Holders.{Holding, holding_of, same_within}
 use Rattle.fuse_plans.specs.Plans.{Finish, KeepsTo}
 use Rattle.fuse_plans.specs.declared.request_error.RequestError.{RequestError}
 use Rattle.fuse_plans.specs.Works.{Work, give, fail, kept, keep, ◌>>=◌, attempt, of_result, needed}
-use Rattle.fuse_plans.specs.FilePlans.{when, done}
+use Rattle.fuse_plans.specs.FilePlans.{when}
 use Rattle.fuse_plans.specs.Acts.{AskedBefore}
 use Rattle.fuse_plans.specs.KeepingDue.{clock_of}
 use Rattle.fuse_plans.specs.Alterations.{adds_name, alterations_in, says_change_in}
@@ -256,9 +256,6 @@ module _ {rights : Role} {k : Nodes} {known : AskedBefore} where
   pub does->>= : {X Y : Type 0} {F : AskedBefore → X → Type 0} {G : AskedBefore → Y → Type 0} {w : Work X} {f : X → Work Y}
       → DoesTo rights k known F w → ((x : X) → DoesTo rights k known G (f x)) → DoesTo rights k known G (w >>= f)
   does->>= first rest = with->>= (forget first) (λ x any. rest x)
-
-  pub does-done : {X : Type 0} {F : AskedBefore → X → Type 0} {w : Work X} → DoesTo rights k known F w → Does rights k known (done w)
-  does-done first = does->>= first (λ x. does-give tt)
 
   pub does-attempt : {X : Type 0} {F : AskedBefore → X → Type 0} {w : Work X} → DoesTo rights k known F w → DoesTo rights k known (OkTo F) (attempt w)
   unfolding attempt

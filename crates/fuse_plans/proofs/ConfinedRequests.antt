@@ -313,12 +313,8 @@ module _ {X : Type 0} where
       alike = subst (λ u. AreAlikeTo w u new') (sym steps) (subst (λ u. AreAlikeTo w old u) (sym steps') alike);
       holds = subst (λ u. AreOpen w u) (sym steps) opened;
     }
-    plans_confined (Finish z) past keeps asks w choices old old' new new' [] fs (r ∷ rs) qs x y is js confined stands opened alike fits runs steps runs' steps' = elim runs [ ]
-    plans_confined (Finish z) past keeps asks w choices old old' new new' (f ∷ es) fs rs qs x y is js confined stands opened alike fits runs steps runs' steps' = elim runs [ ]
     plans_confined (Finish z) past keeps asks w choices old old' new new' [] [] [] (q ∷ qs) x y is js confined stands opened alike fits runs steps runs' steps' = elim runs' [ ]
     plans_confined (Finish z) past keeps asks w choices old old' new new' [] (g ∷ fs) [] qs x y is js confined stands opened alike fits runs steps runs' steps' = elim runs' [ ]
-    plans_confined (Ask e next) past keeps asks w choices old old' new new' [] fs rs qs x y is js confined stands opened alike fits runs steps runs' steps' = elim runs [ ]
-    plans_confined (Ask e next) past keeps asks w choices old old' new new' (f ∷ es) fs [] qs x y is js confined stands opened alike fits runs steps runs' steps' = elim runs [ ]
     plans_confined (Ask e next) past keeps asks w choices old old' new new' (f ∷ es) [] (r ∷ rs) qs x y is js confined stands opened alike fits runs steps runs' steps' = elim runs' [ ]
     plans_confined (Ask e next) past keeps asks w choices old old' new new' (f ∷ es) (g ∷ fs) (r ∷ rs) [] x y is js confined stands opened alike fits runs steps runs' steps' = elim runs' [ ]
     plans_confined (Ask e next) past keeps asks w [] old old' new new' (f ∷ es) (g ∷ fs) (r ∷ rs) (q ∷ qs) x y is js confined stands opened alike fits runs steps runs' steps' = elim steps [ ]
@@ -343,6 +339,7 @@ module _ {X : Type 0} where
               goes_on w w f g r q c cs es fs rs qs x y new new' (runs.0 ∙ sym runs'.0) one.same (λ then has. inr (others.0, has)) (λ then leads. (event, inr (others.1, leads)))
               (rest w stands one)
         ]
+    plans_confined p past keeps asks w choices old old' new new' es fs rs qs x y is js confined stands opened alike fits runs steps runs' steps' = elim runs [ ]
 
 -- ---- requests
 

@@ -1,7 +1,7 @@
 -- What is due is kept first.
 --     due_first, none_before, recent_unless_due        the laws
 --     kept_within        shares are kept by it
-use Rattle.std.specs.Prelude.{◌≡◌, ℕ, ◌+◌, ◌*◌, ◌<◌, ◌≤◌, nat_lt, nat_le, Bool, true, false, ◌&&◌, ◌||◌, List, [], ◌∷◌, Option, None, Some, Result, Ok}
+use Rattle.std.specs.Prelude.{◌≡◌, ℕ, ◌+◌, ◌*◌, ◌<◌, ◌≤◌, nat_lt, nat_le, Bool, true, false, ◌&&◌, ◌||◌, List, ◌∷◌, Option, None, Some, Result, Ok}
 use Rattle.std.proofs.Common.{refl, sym, ap, subst, ◌∙◌, inl, inr, arith}
 use Rattle.std.proofs.lemmas.Bool.Decides.{nat_tests}
 use Rattle.fs_model.specs.declared.event.Event.{Event}
@@ -71,10 +71,9 @@ kept_if : (due : Bool) (now : Time) (s : Server) (es : List Event) (replies : Li
     → IsRunOf (keep_due_if due now s) es replies u → WithinShares s → WithinShares u.1
 unfolding keep give ask ◌>>=◌
 kept_if false now s es replies u runs within = subst WithinShares (sym (ap (λ q. q.1) (run-finished (Ok tt, s) u es replies runs))) within
-kept_if true now s [] replies u runs within = elim runs [ ]
-kept_if true now s (e ∷ es) [] u runs within = elim runs [ ]
 kept_if true now s (e ∷ es) (reply ∷ replies) u runs within =
     subst WithinShares (sym (ap (λ q. q.1) (run-finished (Ok tt, with_kept_at now s) u es replies runs.1))) (same_within s (with_kept_at now s) refl within)
+kept_if due now s es replies u runs within = elim runs [ ]
 
 pub kept_within : (o : Option Operation) (now : Time) (s : Server) (es : List Event) (replies : List Reply) (u : Result (Unit {0}) RequestError × Server)
     → IsRunOf (keep_due_in o now s) es replies u → WithinShares s → WithinShares u.1

@@ -35,13 +35,10 @@ EachRun P (Ask e next) = (reply : Reply) → EachRun (λ es replies x. P (e ∷ 
 pub each-run : {X : Type 0} (P : List Event → List Reply → X → Type 0) (p : Plan X) (es : List Event) (replies : List Reply) (x : X) → EachRun P p
     → IsRunOf p es replies x → P es replies x
 each-run P (Finish y) [] [] x each runs = subst (λ z. P [] [] z) (sym runs) each
-each-run P (Finish y) [] (reply ∷ replies) x each runs = elim runs [ ]
-each-run P (Finish y) (e ∷ es) replies x each runs = elim runs [ ]
-each-run P (Ask e next) [] replies x each runs = elim runs [ ]
-each-run P (Ask e next) (f ∷ es) [] x each runs = elim runs [ ]
 each-run P (Ask e next) (f ∷ es) (reply ∷ replies) x each runs =
     subst (λ g. P (g ∷ es) (reply ∷ replies) x) (sym runs.0)
     (each-run (λ fs rest y. P (e ∷ fs) (reply ∷ rest) y) (next reply) es replies x (each reply) runs.1)
+each-run P p es replies x each runs = elim runs [ ]
 
 pub each-weaker : {X : Type 0} (P Q : List Event → List Reply → X → Type 0) (p : Plan X) → EachRun P p
     → ((es : List Event) (replies : List Reply) (x : X) → P es replies x → Q es replies x) → EachRun Q p
@@ -106,12 +103,9 @@ ended Q es replies y is = subst (λ l. Q l (replies ++ []) y) (sym (append-nil e
 pub asked-before : {X : Type 0} (p : Plan X) (es : List Event) (replies : List Reply) (x : X) {e : Event} {reply : Reply} {after fs : List Event} {rest : List Reply}
     → IsRunOf p es replies x → IsAsked e reply after fs rest → IsAsked e reply after (es ++ fs) (replies ++ rest)
 asked-before (Finish y) [] [] x runs asked = asked
-asked-before (Finish y) [] (again ∷ replies) x runs asked = elim runs [ ]
-asked-before (Finish y) (g ∷ es) replies x runs asked = elim runs [ ]
-asked-before (Ask f next) [] replies x runs asked = elim runs [ ]
-asked-before (Ask f next) (g ∷ es) [] x runs asked = elim runs [ ]
 asked-before (Ask f next) (g ∷ es) (again ∷ replies) x {e} {reply} {after} {fs} {rest} runs asked =
     later g again (es ++ fs) (replies ++ rest) (asked-before (next again) es replies x runs.1 asked)
+asked-before p es replies x runs asked = elim runs [ ]
 
 pub asked-after : {e : Event} {reply : Reply} {after es : List Event} {replies : List Reply} (fs : List Event) (rest : List Reply) → IsAsked e reply after es replies
     → IsAsked e reply (after ++ fs) (es ++ fs) (replies ++ rest)

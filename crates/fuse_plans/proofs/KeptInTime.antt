@@ -50,12 +50,11 @@ module _ (r : Request) (s : Server) (q : Response × Server) (rs : List Request)
   -- a sync comes first
   with_sync : (es : List Event) (replies : List Reply) → IsRunOf (Ask Sync (λ reply. request_plan r (with_kept_at r.now s))) es replies q
       → AreKept s.settings.commit s.kept_at (r ∷ rs) (es ++ more) (replies ++ others)
-  with_sync [] replies runs = elim runs [ ]
-  with_sync (e ∷ es) [] runs = elim runs [ ]
   with_sync (e ∷ es) (reply ∷ replies) runs =
       subst (λ (f : Event). AreKept s.settings.commit s.kept_at (r ∷ rs) ((f ∷ es) ++ more) ((reply ∷ replies) ++ others)) (sym runs.0)
       (synced s.kept_at r rs (with_kept_at r.now s) q reply es more replies others runs.1
       (subst (λ (k : Time × ℕ). AreKept k.1 k.0 rs more others) (clock_stays r (with_kept_at r.now s) q.1 q.0 es replies runs.1) rest))
+  with_sync es replies runs = elim runs [ ]
 
   one_kept : (es : List Event) (replies : List Reply) → IsRunOf (served_plan r s) es replies q
       → AreKept s.settings.commit s.kept_at (r ∷ rs) (es ++ more) (replies ++ others)
@@ -72,8 +71,7 @@ module _ (r : Request) (s : Server) (q : Response × Server) (rs : List Request)
 
 none_asked : {X : Type 0} (x y : X) (es : List Event) (replies : List Reply) → IsRunOf (Finish x) es replies y → (es ≡ []) × (replies ≡ [])
 none_asked x y [] [] ends = (refl, refl)
-none_asked x y [] (reply ∷ replies) ends = elim ends [ ]
-none_asked x y (e ∷ es) replies ends = elim ends [ ]
+none_asked x y es replies ends = elim ends [ ]
 
 pub kept_in_time : RequestsAreKeptInTime
 unfolding requests_plan

@@ -189,15 +189,18 @@ module _ (r : Request) (s : Server) where
       for-create_by r.now valid cred (bit_and umask 0o777) d name way flags.0 mode))) tt) tt) tt)
   name-kept _ is other = absurd (cc)
 
+  -- no name is told for any time
+  for-kept : (es : List Event) (replies : List Reply) (q : Response × Server) → SaysSo (IsFor 0) q → KeptIn es replies q
+  for-kept es replies (Silence, t) any = tt
+  for-kept es replies (Says body, t) is = λ lt. absurd (positive (name_valid_in body) lt is.0)
+  for-kept es replies (Fails e, t) any = tt
+
   -- ---- look-ups
 
   none-kept : (name es : _) (replies : List Reply) → EachRun (λ fs rest q. KeptIn (es ++ fs) (replies ++ rest) q) (search_then r name s false)
-  none-kept name es replies = each-all (SaysSo (IsFor 0)) (λ fs rest q. KeptIn (es ++ fs) (replies ++ rest) q) (search_then r name s false) (all-unjudged r name s) none
-    where
-      none : (fs : List Event) (rest : List Reply) (q : Response × Server) → SaysSo (IsFor 0) q → KeptIn (es ++ fs) (replies ++ rest) q
-      none fs rest (Silence, t) any = tt
-      none fs rest (Says body, t) is = λ lt. absurd (positive (name_valid_in body) lt is.0)
-      none fs rest (Fails e, t) any = tt
+  none-kept name es replies =
+      each-all (SaysSo (IsFor 0)) (λ fs rest q. KeptIn (es ++ fs) (replies ++ rest) q) (search_then r name s false) (all-unjudged r name s)
+      (λ fs rest q so. for-kept (es ++ fs) (replies ++ rest) q so)
 
   searched-kept : (name : List ℕ) → r.operation ≡ Some (Lookup name) → EachRun KeptIn (plan_for r (Some (Lookup name)) s)
   searched-kept name asked = searches KeptIn r name s (choose s.settings.posix_acl refl)
@@ -225,12 +228,7 @@ module _ (r : Request) (s : Server) where
   plain-kept : (operation : Operation) → names_an_object operation ≡ false → EachRun KeptIn (plan_for r (Some operation) s)
   plain-kept operation is =
       each-all (SaysSo (IsFor 0)) KeptIn (plan_for r (Some operation) s)
-      (all-planned (IsFor 0) r operation s (λ nobody. plain-plan (asked_of r nobody) r.value operation is)) none
-    where
-      none : (es : List Event) (replies : List Reply) (q : Response × Server) → SaysSo (IsFor 0) q → KeptIn es replies q
-      none es replies (Silence, t) any = tt
-      none es replies (Says body, t) is = λ lt. absurd (positive (name_valid_in body) lt is.0)
-      none es replies (Fails e, t) any = tt
+      (all-planned (IsFor 0) r operation s (λ nobody. plain-plan (asked_of r nobody) r.value operation is)) for-kept
 
   operation-kept : (operation : Operation) → r.operation ≡ Some operation → (b : Bool) → names_an_object operation ≡ b → EachRun KeptIn (plan_for r (Some operation) s)
   operation-kept operation asked false is = plain-kept operation is

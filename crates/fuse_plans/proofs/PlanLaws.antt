@@ -82,12 +82,9 @@ replies-told P now told true (Replying w) is = told w is
 pub run-followed_by : {X Y : Type 0} (p : Plan X) (f : X → Plan Y) (es fs : List Event) (replies more : List Reply) (x : X) (y : Y)
     → IsRunOf p es replies x → IsRunOf (f x) fs more y → IsRunOf (followed_by p f) (es ++ fs) (replies ++ more) y
 run-followed_by (Finish z) f [] fs [] more x y first rest = subst (λ w. IsRunOf (f w) fs more y) first rest
-run-followed_by (Finish z) f [] fs (reply ∷ replies) more x y first rest = elim first [ ]
-run-followed_by (Finish z) f (e ∷ es) fs replies more x y first rest = elim first [ ]
-run-followed_by (Ask e next) f [] fs replies more x y first rest = elim first [ ]
-run-followed_by (Ask e next) f (g ∷ es) fs [] more x y first rest = elim first [ ]
 run-followed_by (Ask e next) f (g ∷ es) fs (reply ∷ replies) more x y first rest =
     (first.0, run-followed_by (next reply) f es fs replies more x y first.1 rest)
+run-followed_by p f es fs replies more x y first rest = elim first [ ]
 
 -- what the one asks, and then the other
 pub record Parted {X Y : Type 0} (p : Plan X) (f : X → Plan Y) (es : List Event) (replies : List Reply) (y : Y) : Type 0 where
@@ -114,8 +111,6 @@ run-parts (Finish x) f es replies y follows = record {
   first = refl;
   later = follows;
 }
-run-parts (Ask e next) f [] replies y follows = elim follows [ ]
-run-parts (Ask e next) f (g ∷ es) [] y follows = elim follows [ ]
 run-parts (Ask e next) f (g ∷ es) (reply ∷ replies) y follows =
     let rest = run-parts (next reply) f es replies y follows.1 in
     record {
@@ -129,27 +124,24 @@ run-parts (Ask e next) f (g ∷ es) (reply ∷ replies) y follows =
       first = (follows.0, rest.first);
       later = rest.later;
     }
+run-parts p f es replies y follows = elim follows [ ]
 
 -- nothing is asked, and that is the end
 pub run-finished : {X : Type 0} (x y : X) (es : List Event) (replies : List Reply) → IsRunOf (Finish x) es replies y → y ≡ x
 run-finished x y [] [] runs = runs
-run-finished x y [] (reply ∷ replies) runs = elim runs [ ]
-run-finished x y (e ∷ es) replies runs = elim runs [ ]
+run-finished x y es replies runs = elim runs [ ]
 
 -- equal replies lead to equal results
 pub run-one : {X : Type 0} (p : Plan X) (es fs : List Event) (replies : List Reply) (x y : X) → IsRunOf p es replies x → IsRunOf p fs replies y
     → (es ≡ fs) × (x ≡ y)
 run-one (Finish z) [] [] [] x y first other = (refl, first ∙ sym other)
-run-one (Finish z) [] [] (reply ∷ replies) x y first other = elim first [ ]
-run-one (Finish z) (e ∷ es) fs replies x y first other = elim first [ ]
 run-one (Finish z) [] (e ∷ fs) replies x y first other = elim other [ ]
-run-one (Ask e next) [] fs replies x y first other = elim first [ ]
 run-one (Ask e next) (g ∷ es) [] replies x y first other = elim other [ ]
-run-one (Ask e next) (g ∷ es) (h ∷ fs) [] x y first other = elim first [ ]
 run-one (Ask e next) (g ∷ es) (h ∷ fs) (reply ∷ replies) x y first other =
     let rest = run-one (next reply) es fs replies x y first.1 other.1 in
     let same : g ≡ h = first.0 ∙ sym other.0 in
     (ap (λ k. k ∷ es) same ∙ ap (λ l. h ∷ l) rest.0, rest.1)
+run-one p es fs replies x y first other = elim first [ ]
 
 -- ---- what a plan keeps to, of the events that were asked
 
@@ -157,16 +149,13 @@ run-one (Ask e next) (g ∷ es) (h ∷ fs) (reply ∷ replies) x y first other =
 pub keeps-follows : {M X : Type 0} (rule : Restraint M) (E : M → X → Type 0) (p : Plan X) (es : List Event) (replies : List Reply) (x : X) (m : M)
     → KeepsTo rule E m p → IsRunOf p es replies x → MayAskAll rule m es replies × E (after_all rule m es replies) x
 keeps-follows rule E (Finish y) [] [] x m keeps follows = (tt, subst (λ z. E m z) (sym follows) keeps)
-keeps-follows rule E (Finish y) [] (reply ∷ replies) x m keeps follows = elim follows [ ]
-keeps-follows rule E (Finish y) (e ∷ es) replies x m keeps follows = elim follows [ ]
-keeps-follows rule E (Ask e next) [] replies x m keeps follows = elim follows [ ]
-keeps-follows rule E (Ask e next) (g ∷ es) [] x m keeps follows = elim follows [ ]
 keeps-follows rule E (Ask e next) (g ∷ es) (reply ∷ replies) x m keeps follows =
     let rest = keeps-follows rule E (next reply) es replies x (rule.after m e reply) (keeps.1 reply) follows.1 in
     let as_asked = sym follows.0 in (
       (subst (λ h. rule.may_ask m h) as_asked keeps.0, subst (λ h. MayAskAll rule (rule.after m h reply) es replies) as_asked rest.0),
       subst (λ h. E (after_all rule (rule.after m h reply) es replies) x) as_asked rest.1,
     )
+keeps-follows rule E p es replies x m keeps follows = elim follows [ ]
 
 -- so it was then
 pub may_at : {M : Type 0} (rule : Restraint M) (m : M) (es after : List Event) (replies rest : List Reply) (e : Event) (reply : Reply) → length replies ≡ length es

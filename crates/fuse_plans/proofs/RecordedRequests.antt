@@ -122,11 +122,8 @@ times_are_set_by_right r s t response n atime mtime ctime reply before after rep
 -- as many replies as events
 run-length : {X : Type 0} (p : Plan X) (es : List Event) (replies : List Reply) (x : X) → IsRunOf p es replies x → length replies ≡ length es
 run-length (Finish y) [] [] x runs = refl
-run-length (Finish y) [] (reply ∷ replies) x runs = elim runs [ ]
-run-length (Finish y) (e ∷ es) replies x runs = elim runs [ ]
-run-length (Ask e next) [] replies x runs = elim runs [ ]
-run-length (Ask e next) (g ∷ es) [] x runs = elim runs [ ]
 run-length (Ask e next) (g ∷ es) (reply ∷ replies) x runs = let rest = run-length (next reply) es replies x runs.1 in omega (arith, rest)
+run-length p es replies x runs = elim runs [ ]
 
 asked-last : (rights : Role) (past before : AskedBefore) (f : Event) (es : List Event) (other : Reply) (replies : List Reply) (e : Event) (reply : Reply) → length replies ≡ length es
     → after_all (doing rights) past (f ∷ es) (other ∷ replies) ≡ (e, reply) ∷ before → IsAsked e reply [] (f ∷ es) (other ∷ replies)

@@ -193,11 +193,10 @@ requests_change_what_they_say r s = keeps-asks (role_of r s) (Ended (role_of r s
 
 asks-run : {X : Type 0} (May : Event → Type 0) (p : Plan X) (es : List Event) (replies : List Reply) (x : X) → AsksOnly May p → IsRunOf p es replies x → All May es
 asks-run May (Finish y) [] replies x asks runs = All-nil May
-asks-run May (Finish y) (e ∷ es) replies x asks runs = elim runs [ ]
 asks-run May (Ask e next) [] replies x asks runs = All-nil May
-asks-run May (Ask e next) (f ∷ es) [] x asks runs = elim runs [ ]
 asks-run May (Ask e next) (f ∷ es) (reply ∷ replies) x asks runs =
     All-cons May f es (subst May (sym runs.0) asks.0) (asks-run May (next reply) es replies x (asks.1 reply) runs.1)
+asks-run May p es replies x asks runs = elim runs [ ]
 
 pub runs_change_what_requests_say : RunsChangeWhatRequestsSay
 runs_change_what_requests_say r s es replies result runs =

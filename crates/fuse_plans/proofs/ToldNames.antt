@@ -170,15 +170,11 @@ for-tell_attributes status = so-after _ (λ stamps. so-kept _ (λ s. (refl, refl
 pub plain-plan : (r : Asked) (value : Option (Option AccessList)) (operation : Operation) → names_an_object operation ≡ false
     → IfTellsSo (IsFor 0) (plan_of r value operation)
 unfolding take_directory read_directory read_directory_plus close_directory sync_all end count_space begin
-plain-plan r value (Lookup name) is = absurd (cc)
 plain-plan r value (Forget count) is = tt
 plain-plan r value GetAttr is = so-after _ (λ n. so-after _ (λ status. for-tell_attributes status))
 plain-plan r value (SetAttr changes) is =
     so-after _ (λ n. so-after _ (λ cred. so-after _ (λ changed. so-after _ (λ status. so-after _ (λ timed. for-tell_attributes status)))))
 plain-plan r value ReadLink is = so-after _ (λ n. so-after _ (λ reply. so-after _ (λ target. so-give _ (λ s. (refl, refl)))))
-plain-plan r value (SymLink name target) is = absurd (cc)
-plain-plan r value (MkNod name mode umask) is = absurd (cc)
-plain-plan r value (MkDir name mode umask) is = absurd (cc)
 plain-plan r value (Unlink name) is =
     so-after _ (λ d. so-after _ (λ cred. so-after _ (λ gone. so-after _ (λ done. so-after _ (λ removed. so-give _ (λ s. (refl, refl)))))))
 plain-plan r value (RmDir name) is =
@@ -207,12 +203,12 @@ plain-plan r value (ReadDirPlus extent) is = so-after _ (λ place. so-after _ (�
 plain-plan r value (ReleaseDir handle) is = so-after _ (λ gone. so-give _ (λ s. (refl, refl)))
 plain-plan r value FSyncDir is = so-after _ (λ done. so-give _ (λ s. (refl, refl)))
 plain-plan r value (Access mask) is = so-after _ (λ n. so-after _ (λ cred. so-after _ (λ may. so-give _ (λ s. (refl, refl)))))
-plain-plan r value (Create name flags mode umask) is = absurd (cc)
 plain-plan r value Interrupt is = tt
 plain-plan r value Destroy is = so-after _ (λ ended. so-after _ (λ done. so-give _ (λ s. (refl, refl))))
 plain-plan r value (BatchForget batch) is = tt
 plain-plan r value SyncFs is = so-after _ (λ done. so-give _ (λ s. (refl, refl)))
 plain-plan r value Unknown is = so-fail _
+plain-plan r value _ is = absurd (cc)
 
 -- ---- requests that name what they make
 

@@ -18,6 +18,7 @@ use Rattle.fs_layout.proofs.FirstEntries.{left as and-first, right as and-second
 use Rattle.fs_cred.proofs.Lookups.{Contains-head, Contains-tail, Contains-cons_cases}
 use Rattle.fuse_plans.specs.Nobody.{all_hold, entries_for, mask_holds, mask_passes, grants_members, grants_named, grants_user}
 use Rattle.fuse_plans.specs.Laws.{UsersAreGranted}
+use Rattle.fuse_plans.proofs.Said.{said-so}
 
 not-both : (b : Bool) → b ≡ false → b ≡ true → ⊥
 not-both b fails holds = let is : false ≡ true = sym fails ∙ holds in cc
@@ -118,18 +119,16 @@ held-executes perms want held is = choose (not want.read || perms.read) (not wan
     choose true false wants has is held = absurd (cc)
     choose false b wants has is held = absurd (cc)
 
+-- one of three
+executes : (a b c : Bool) → (b ≡ false → c ≡ true) → (a || b || c) ≡ true
+executes true true c is = refl
+executes true false c is = refl
+executes false true c is = refl
+executes false false c is = is refl
+
 module _ (acl : AccessList) (want : Perms) (wanted : want.execute ≡ true) where
   owner-executes : holds acl.owner want ≡ true → has_execute_bit acl ≡ true
-  owner-executes held =
-      let is = held-executes acl.owner want held wanted in
-      choose acl.owner.execute ((group_class acl).execute) acl.other.execute is
-    where
-      choose : (a b c : Bool) → a ≡ true → (a || b || c) ≡ true
-      choose true true true is = refl
-      choose true true false is = refl
-      choose true false true is = refl
-      choose true false false is = refl
-      choose false b c is = absurd (cc)
+  owner-executes held = ap (λ a. a || (group_class acl).execute || acl.other.execute) (held-executes acl.owner want held wanted)
 
   mask-executes : (mask : Option Perms) → acl.mask ≡ mask → mask_holds mask want ≡ true → (group_class acl).execute ≡ true
   mask-executes None is held = absurd (cc)
@@ -137,22 +136,10 @@ module _ (acl : AccessList) (want : Perms) (wanted : want.execute ≡ true) wher
 
   named-executes : (es : List (ℕ × Perms)) → grants_named es acl want ≡ true → has_execute_bit acl ≡ true
   named-executes [] held =
-      choose acl.owner.execute ((group_class acl).execute) acl.other.execute (held-executes acl.other want ((members-granted acl want held).other) wanted)
-    where
-      choose : (a b c : Bool) → c ≡ true → (a || b || c) ≡ true
-      choose true true c is = refl
-      choose true false c is = refl
-      choose false true c is = refl
-      choose false false c is = is
+      executes acl.owner.execute ((group_class acl).execute) acl.other.execute (λ none. held-executes acl.other want ((members-granted acl want held).other) wanted)
   named-executes (e ∷ es) held =
-      choose acl.owner.execute ((group_class acl).execute) acl.other.execute
-      (mask-executes acl.mask refl (and-second (all_hold (e ∷ es) want) (mask_holds acl.mask want) held))
-    where
-      choose : (a b c : Bool) → b ≡ true → (a || b || c) ≡ true
-      choose true true c is = refl
-      choose false true c is = refl
-      choose true false c is = refl
-      choose false false c is = absurd (cc)
+      executes acl.owner.execute ((group_class acl).execute) acl.other.execute
+      (λ none. said-so (sym (mask-executes acl.mask refl (and-second (all_hold (e ∷ es) want) (mask_holds acl.mask want) held)) ∙ none))
 
   granted-executes : (owner uid : ℕ) → grants_user owner uid acl want ≡ true → has_execute_bit acl ≡ true
   granted-executes owner uid held = choose (owner == uid) held
