@@ -6,7 +6,7 @@
 --     for-unjudged        look-ups of which who asks counts
 --     leads-plan        the node that is told of a name leads to the object
 --     SaysSo, all-planned, all-unjudged        the same of whole requests
-use Rattle.std.specs.Prelude.{◌≡◌, ℕ, ◌<◌, ◌^◌, Bool, true, false, List, Option, None, Some, unwrap_or, Result, Ok, Err, if◌then◌else◌, bit_and}
+use Rattle.std.specs.Prelude.{◌≡◌, ℕ, ◌<◌, ◌^◌, Bool, true, false, List, Option, Some, unwrap_or, Result, Ok, Err, if◌then◌else◌, bit_and}
 use Rattle.std.proofs.Common.{refl, sym, ap, subst}
 use Rattle.posix_acl.specs.declared.entry.Perms.{Perms}
 use Rattle.posix_acl.specs.AccessList.{AccessList}
@@ -15,7 +15,7 @@ use Rattle.fs_cred.specs.Credentials.{Credential}
 use Rattle.fs_model.specs.declared.call.AclType.{AclType}
 use Rattle.fs_model.specs.declared.reply.Status.{Status}
 use Rattle.fuse_protocol.specs.declared.operation.Operation.{Operation}
-use Rattle.fuse_protocol.specs.declared.operation.Operation.TheVariants.{Lookup, Forget, GetAttr, SetAttr, ReadLink, SymLink, MkNod, MkDir, Unlink, RmDir, Rename, Link, Open, Read, Write, StatFs, Release, FSync, SetXAttr, GetXAttr, ListXAttr, RemoveXAttr, Init, OpenDir, ReadDir, ReadDirPlus, ReleaseDir, FSyncDir, Access, Create, Interrupt, Destroy, BatchForget, SyncFs, Unknown}
+use Rattle.fuse_protocol.specs.declared.operation.Operation.TheVariants.{Lookup, Forget, SymLink, MkNod, MkDir, Create, Interrupt, BatchForget}
 use Rattle.fuse_protocol.specs.declared.reply.Time.{Time}
 use Rattle.fuse_state.specs.Servers.{Server, number_of_node}
 use Rattle.fuse_state.proofs.StateLaws.{lead_back}
@@ -41,6 +41,7 @@ use Rattle.fuse_plans.specs.Serving.{Task, Replying, Silent, begin, count_space,
 use Rattle.fuse_plans.specs.Laws.{told_entry, names_an_object}
 use Rattle.fuse_plans.specs.KeepingLaws.{name_valid_in}
 use Rattle.fuse_plans.proofs.AllEnds.{AllEnd, all-weaker, all-followed_by}
+use Rattle.fuse_plans.proofs.Said.{said-so}
 use Rattle.fuse_plans.proofs.PlanLaws.{IfReplies, replies-told}
 use Rattle.fuse_plans.proofs.Searches.{is_absent, plan_for, search_then}
 
@@ -167,48 +168,30 @@ for-set_acl r which acl =
 for-tell_attributes : (status : Status) → TellsSo (IsFor 0) (tell_attributes status)
 for-tell_attributes status = so-after _ (λ stamps. so-kept _ (λ s. (refl, refl)))
 
+plain-give : (body : ReplyBody) → name_valid_in body ≡ 0 → is_absent body ≡ false → TellsSo (IsFor 0) (give body)
+plain-give body valid there = so-give body (λ s. (valid, there))
+
+plain-kept : (f : Server → ReplyBody) → ((s : Server) → name_valid_in (f s) ≡ 0) → ((s : Server) → is_absent (f s) ≡ false) → TellsSo (IsFor 0) (kept f)
+plain-kept f valid there = so-kept f (λ s. (valid s, there s))
+
+for-linked : (n : ℕ) → TellsSo (IsFor 0) (tell_named 0 n)
+for-linked n = so-weaker (λ body t is. is.0) (for-tell_named 0 n)
+
+-- each piece of a plan that tells no name, for a search
+ruleset plain = (for-sized, for-take_directory_if, for-set_acl, for-tell_attributes, for-linked, plain-give, plain-kept, so-fail, so-if, so-after)
+
 pub plain-plan : (r : Asked) (value : Option (Option AccessList)) (operation : Operation) → names_an_object operation ≡ false
     → IfTellsSo (IsFor 0) (plan_of r value operation)
 unfolding take_directory read_directory read_directory_plus close_directory sync_all end count_space begin
+plain-plan r value (Lookup name) is = said-so is
+plain-plan r value (SymLink name target) is = said-so is
+plain-plan r value (MkNod name mode umask) is = said-so is
+plain-plan r value (MkDir name mode umask) is = said-so is
+plain-plan r value (Create name flags mode umask) is = said-so is
 plain-plan r value (Forget count) is = tt
-plain-plan r value GetAttr is = so-after _ (λ n. so-after _ (λ status. for-tell_attributes status))
-plain-plan r value (SetAttr changes) is =
-    so-after _ (λ n. so-after _ (λ cred. so-after _ (λ changed. so-after _ (λ status. so-after _ (λ timed. for-tell_attributes status)))))
-plain-plan r value ReadLink is = so-after _ (λ n. so-after _ (λ reply. so-after _ (λ target. so-give _ (λ s. (refl, refl)))))
-plain-plan r value (Unlink name) is =
-    so-after _ (λ d. so-after _ (λ cred. so-after _ (λ gone. so-after _ (λ done. so-after _ (λ removed. so-give _ (λ s. (refl, refl)))))))
-plain-plan r value (RmDir name) is =
-    so-after _ (λ d. so-after _ (λ cred. so-after _ (λ gone. so-after _ (λ done. so-after _ (λ removed. so-give _ (λ s. (refl, refl)))))))
-plain-plan r value (Rename name new_directory new_name flags) is =
-    so-after _ (λ may. so-after _ (λ d. so-after _ (λ new. so-after _ (λ cred. so-after _ (λ free.
-    so-after _ (λ object. so-after _ (λ replaced. so-after _ (λ done. so-after _ (λ moved. so-give _ (λ s. (refl, refl)))))))))))
-plain-plan r value (Link node name) is =
-    so-after _ (λ d. so-after _ (λ n. so-after _ (λ cred. so-after _ (λ done. so-after _ (λ linked. so-weaker (λ body t is. is.0) (for-tell_named 0 n))))))
-plain-plan r value (Open flags) is =
-    so-after _ (λ n. so-after _ (λ mode. so-after _ (λ cred. so-after _ (λ asked. so-after _ (λ reply. so-after _ (λ opened. so-after _ (λ touched. so-kept _ (λ s. (refl, refl)))))))))
-plain-plan r value (Read extent) is = so-after _ (λ reply. so-after _ (λ bytes. so-give _ (λ s. (refl, refl))))
-plain-plan r value (Write handle offset bytes) is = so-after _ (λ within. so-after _ (λ count. so-after _ (λ touched. so-give _ (λ s. (refl, refl)))))
-plain-plan r value StatFs is = so-after _ (λ reply. so-after _ (λ free. so-kept _ (λ s. (refl, refl))))
-plain-plan r value (Release handle) is = so-after _ (λ closed. so-give _ (λ s. (refl, refl)))
-plain-plan r value (FSync handle) is = so-after _ (λ done. so-give _ (λ s. (refl, refl)))
-plain-plan r value (SetXAttr name bytes) is = so-after _ (λ which. so-after _ (λ acl. for-set_acl r which acl))
-plain-plan r value (GetXAttr name size) is = so-after _ (λ which. so-after _ (λ n. so-after _ (λ found. so-after _ (λ acl. for-sized size _ _ (λ s. (refl, refl))))))
-plain-plan r value (ListXAttr size) is = so-after _ (λ n. so-after _ (λ names. for-sized size _ _ (λ s. (refl, refl))))
-plain-plan r value (RemoveXAttr name) is = so-after _ (λ which. for-set_acl r which None)
-plain-plan r value (Init offer) is =
-    so-if _ _ _ (so-fail _) (so-if _ _ _ (so-give _ (λ s. (refl, refl))) (so-after _ (λ offered. so-kept _ (λ s. (refl, refl)))))
-plain-plan r value OpenDir is = so-after _ (λ n. so-after _ (λ cred. so-after _ (λ read. so-after _ (λ may. so-after _ (for-take_directory_if cred.uid r.node)))))
-plain-plan r value (ReadDir extent) is = so-after _ (λ names. so-give _ (λ s. (refl, refl)))
-plain-plan r value (ReadDirPlus extent) is = so-after _ (λ place. so-after _ (λ names. so-after _ (λ found. so-give _ (λ s. (refl, refl)))))
-plain-plan r value (ReleaseDir handle) is = so-after _ (λ gone. so-give _ (λ s. (refl, refl)))
-plain-plan r value FSyncDir is = so-after _ (λ done. so-give _ (λ s. (refl, refl)))
-plain-plan r value (Access mask) is = so-after _ (λ n. so-after _ (λ cred. so-after _ (λ may. so-give _ (λ s. (refl, refl)))))
-plain-plan r value Interrupt is = tt
-plain-plan r value Destroy is = so-after _ (λ ended. so-after _ (λ done. so-give _ (λ s. (refl, refl))))
 plain-plan r value (BatchForget batch) is = tt
-plain-plan r value SyncFs is = so-after _ (λ done. so-give _ (λ s. (refl, refl)))
-plain-plan r value Unknown is = so-fail _
-plain-plan r value _ is = absurd (cc)
+plain-plan r value Interrupt is = tt
+plain-plan r value operation is = search plain depth 24
 
 -- ---- requests that name what they make
 
