@@ -1,10 +1,12 @@
 -- Whole requests, run: with the replies that are given, or on the abstract machine.
 --     replayed, played        one plan with given replies, and requests: what is asked, and what the kernel hears
 --     carried, carried_out        the same on the machine
---     heard_from, heard        what the kernel hears of requests, from a state on, and from a new disk on
+--     heard_from        what the kernel hears of requests, from a state on
 --     counted_from        who counts of those who ask
---     init, who, asks, ..        words for requests, events, replies and answers
-use Rattle.std.specs.Prelude.{ℕ, ◌+◌, ◌*◌, ◌^◌, Bool, true, false, List, [], ◌∷◌, Result, Ok, Err, Option, None, Some}
+--     init, root, user, shown, ..        words for requests, events, replies and answers
+--     AreHeardFrom, AreHeard, ArePlayed, AreWritten        worked rows: each request beside what the kernel hears of it
+--     EachIs        and anything else beside what it is
+use Rattle.std.specs.Prelude.{◌≡◌, ℕ, ◌+◌, ◌*◌, ◌^◌, Bool, true, false, List, [], ◌∷◌, ◌++◌, map, Result, Ok, Err, Option, None, Some}
 use Rattle.std.specs.Hash.DefaultHasher.{initial, round, write_word, write_byte, write, finish}
 use Rattle.std.specs.List.{flat_map}
 use Rattle.posix_acl.specs.declared.entry.Perms.{Perms}
@@ -29,12 +31,14 @@ use Rattle.fs_model.specs.Rows.{row_of}
 use Rattle.fs_model.specs.HandleCalls.{handle_call_row}
 use Rattle.fs_model.specs.Steps.{firm_refusal, other_refusal, after}
 use Rattle.fs_model.proofs.Machine.{fresh, went}
+use Rattle.fuse_protocol.specs.declared.flags.OpenFlags.{OpenFlags}
 use Rattle.fuse_protocol.specs.declared.flags.OpenedFlags.{OpenedFlags}
 use Rattle.fuse_protocol.specs.declared.entry.DirectoryEntry.{DirectoryEntry}
 use Rattle.fuse_protocol.specs.declared.operation.AttrChanges.{AttrChanges}
 use Rattle.fuse_protocol.specs.declared.operation.Extent.{Extent}
+use Rattle.fuse_protocol.specs.declared.operation.NewTime.{NewTime}
 use Rattle.fuse_protocol.specs.declared.operation.Operation.{Operation}
-use Rattle.fuse_protocol.specs.declared.operation.Operation.TheVariants.{Init, SetAttr}
+use Rattle.fuse_protocol.specs.declared.operation.Operation.TheVariants.{Init, Open, SetAttr}
 use Rattle.fuse_protocol.specs.declared.reply.Time.{Time}
 use Rattle.fuse_protocol.specs.declared.request.Request.{Request as WireRequest}
 use Rattle.fuse_protocol.specs.declared.request.RequestFault.{RequestFault}
@@ -169,9 +173,9 @@ new = new_where false
 abbrev pub timekeeping : Server
 timekeeping = new_where true
 
--- what the kernel hears from the first request on
-abbrev pub heard : List Request → List Heard
-heard rs = heard_from new fresh rs
+-- a disk that was just made, and keeps times
+abbrev pub keeping : State
+keeping = record fresh { room = record fresh.room { keeps_times = true } }
 
 abbrev pub outside : Option (List ℕ) → ℕ → Outside
 outside groups now = record { groups = groups; caps = all_caps; now = second now; memory = true }
@@ -193,6 +197,21 @@ asks node uid gid groups now operation = record {
 abbrev pub asks_with : Option AccessList → ℕ → ℕ → ℕ → Option (List ℕ) → ℕ → Operation → Request
 asks_with acl node uid gid groups now operation = record (asks node uid gid groups now operation) { value = Some acl }
 
+-- the kernel itself, with no groups that are known
+abbrev pub kernel : ℕ → ℕ → Operation → Request
+kernel of now operation = asks of 0 0 None now operation
+
+abbrev pub root : ℕ → ℕ → Operation → Request
+root of now operation = asks of 0 0 (Some []) now operation
+
+-- user 1000 of group 100
+abbrev pub user : ℕ → ℕ → Operation → Request
+user of now operation = asks of 1000 100 (Some []) now operation
+
+-- and user 1001 of group 101
+abbrev pub another : ℕ → ℕ → Operation → Request
+another of now operation = asks of 1001 101 (Some []) now operation
+
 abbrev pub init : Operation
 init = Init (record { major = 7; minor = 45; max_readahead = 131072; flags = record { 0 = 1946157051 } })
 
@@ -204,6 +223,27 @@ set_mode mode = SetAttr (record no_changes { mode = Some mode })
 
 abbrev pub set_owner : ℕ → Operation
 set_owner uid = SetAttr (record no_changes { uid = Some uid })
+
+abbrev pub set_times : Option NewTime → Option NewTime → Operation
+set_times atime mtime = SetAttr (record no_changes { atime = atime; mtime = mtime })
+
+-- of an object, and by a handle
+abbrev pub set_size : ℕ → Operation
+set_size size = SetAttr (record no_changes { size = Some size })
+
+abbrev pub set_size_by : ℕ → ℕ → Operation
+set_size_by handle size = SetAttr (record no_changes { size = Some size; handle = Some handle })
+
+-- of an OPEN and a CREATE
+abbrev pub flags : ℕ → OpenFlags
+flags bits = record { 0 = bits }
+
+-- to open for reading alone, and for writing alone
+abbrev pub reading : Operation
+reading = Open (flags 0)
+
+abbrev pub writing : Operation
+writing = Open (flags 1)
 
 -- a call by someone in a directory, or on an object
 abbrev pub at : ℕ → ℕ → ℕ → Call → Event
@@ -273,6 +313,50 @@ abbrev pub acl : Perms → List (ℕ × Perms) → Perms → List (ℕ × Perms)
 acl owner users group groups mask other =
     record { owner = owner; users = users; group = group; groups = groups; mask = mask; other = other }
 
+-- ---- rows
+
+-- a request, and what the kernel hears of it
+infix 68 ◌hears◌
+abbrev pub ◌hears◌ : {X Y : Type 0} → X → Y → X × Y
+x hears y = (x, y)
+
+abbrev pub AreHeardFrom : Server → State → List (Request × Heard) → Type 0
+AreHeardFrom s m rows = heard_from s m (map (λ row. row.0) rows) ≡ map (λ row. row.1) rows
+
+-- from the first request on
+abbrev pub AreHeard : List (Request × Heard) → Type 0
+AreHeard rows = AreHeardFrom new fresh rows
+
+-- an event that is asked for, and the reply to it
+infix 70 ◌gets◌
+abbrev pub ◌gets◌ : Event → Reply → Event × Reply
+e gets reply = (e, reply)
+
+-- a request, and what is asked for it: all, the first, and one more
+infixl 69 ◌through◌
+abbrev pub ◌through◌ : Request → List (Event × Reply) → Request × List (Event × Reply)
+r through steps = (r, steps)
+
+infixl 69 ◌first◌
+abbrev pub ◌first◌ : Request → Event × Reply → Request × List (Event × Reply)
+r first step = (r, step ∷ [])
+
+infixl 69 ◌then◌
+abbrev pub ◌then◌ : Request × List (Event × Reply) → Event × Reply → Request × List (Event × Reply)
+asked then step = (asked.0, asked.1 ++ step ∷ [])
+
+abbrev pub ArePlayed : Server → List ((Request × List (Event × Reply)) × Heard) → Type 0
+ArePlayed s rows =
+    played s (map (λ row. (row.0.0, map (λ step. step.1) row.0.1)) rows) ≡ map (λ row. (map (λ step. step.0) row.0.1, row.1)) rows
+
+-- what is computed, and what it is
+infix 68 ◌is◌
+abbrev pub ◌is◌ : {X : Type 0} → X → X → X × X
+x is y = (x, y)
+
+abbrev pub EachIs : {X : Type 0} → List (X × X) → Type 0
+EachIs rows = map (λ row. row.0) rows ≡ map (λ row. row.1) rows
+
 -- ---- with the protocol's bytes
 
 -- the request of these bytes, with the ACL that its value says
@@ -288,6 +372,9 @@ written_from s m (step ∷ steps) =
     let request = spoken step.1 step.2 (request_of step.0) in
     let done = carried (request_plan request s) m in
     response_bytes request.unique done.0.0 ∷ written_from done.0.1 done.1 steps
+
+abbrev pub AreWritten : Server → State → List ((List ℕ × Outside × Option (Option AccessList)) × List ℕ) → Type 0
+AreWritten s m rows = written_from s m (map (λ row. row.0) rows) ≡ map (λ row. row.1) rows
 
 -- all that bytes compute with
 unfoldable pub all_bytes : Unit {0}
