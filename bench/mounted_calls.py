@@ -278,8 +278,6 @@ def failed(seen):
 
 def known(mounted, local, name, words, ours, theirs):
     """The number in docs/MOUNT.md of a difference, where it is one that is known; the directory is that of the tree."""
-    if ours == 'ESTALE' and name in BY_NUMBER:
-        return 12
     if 'own_rules' in mounted.options and (failed(ours) and failed(theirs) or name == 'link' and theirs == 'EPERM'):
         return 1
     # The present time, of a link itself: Linux asks whether that may be written, and all may.

@@ -95,11 +95,42 @@ def removed_directory(path):
     return attempt(os.listdir, folder), attempt(lambda: os.open('x', os.O_CREAT | os.O_WRONLY, dir_fd=folder))
 
 
-def stat_of_removed_directory(path):
-    os.mkdir(path)
+def shown(folder):
+    """What is shown of a directory that is open and may be gone: its links, mode, owner and lists, and of an opening anew its names."""
+    def opened_anew():
+        again = os.open('.', os.O_RDONLY, dir_fd=folder)
+        try:
+            return os.listdir(again)
+        finally:
+            os.close(again)
+    return (attempt(lambda: (os.fstat(folder).st_nlink, oct(os.fstat(folder).st_mode), os.fstat(folder).st_uid)), attempt(opened_anew),
+        attempt(lambda: os.getxattr(f'/proc/self/fd/{folder}', 'system.posix_acl_access')), attempt(lambda: os.listxattr(f'/proc/self/fd/{folder}')))
+
+
+def removed_directory_shown(path):
+    """A directory that was removed, also once its number may be another's, and who stands in it."""
+    os.mkdir(path, 0o750)
     folder = os.open(path, os.O_RDONLY)
     os.rmdir(path)
-    return attempt(lambda: os.fstat(folder).st_nlink)
+    first = shown(folder)
+    os.mkdir(path)
+    later = shown(folder)
+    os.chdir(path)
+    os.rmdir(path)
+    below = attempt(os.getcwd), attempt(lambda: os.stat('.').st_nlink), attempt(os.listdir, '.'), attempt(lambda: os.mkdir('x'))
+    os.chdir('/')
+    return first, later, below
+
+
+def replaced_directory_shown(path, other):
+    """A directory in whose place another was moved."""
+    os.mkdir(path)
+    os.mkdir(other, 0o711)
+    folder = os.open(other, os.O_RDONLY)
+    os.rename(path, other)
+    seen = shown(folder), oct(os.stat(other).st_mode)
+    os.rmdir(other)
+    return seen
 
 
 def descriptor_calls(path):
@@ -239,7 +270,7 @@ def listing_while_removed(path):
 
 CALLS = {call.__name__: call for call in (
     set_acl, remove_acl, list_attributes, acls_of, unlinked_open_file, rename_over_open_file, shared_map, private_map,
-    map_of_unlinked, appends, removed_directory, stat_of_removed_directory, descriptor_calls, below_closed_directory, without_a_name, link_by_descriptor,
+    map_of_unlinked, appends, removed_directory, removed_directory_shown, replaced_directory_shown, descriptor_calls, below_closed_directory, without_a_name, link_by_descriptor,
     times, times_move,
     times_of_directories, holes, limits, long_name, crowd, opens, listing_while_removed)}
 for name in ('chmod', 'chown', 'link', 'symlink', 'rename', 'unlink', 'rmdir', 'mkdir', 'mkfifo', 'truncate', 'access', 'lchown'):

@@ -22,6 +22,7 @@ use Rattle.fuse_protocol.specs.declared.operation.NewTime.TheVariants.{Now, At}
 use Rattle.fuse_protocol.specs.declared.operation.Operation.{Operation}
 use Rattle.fuse_protocol.specs.declared.operation.Operation.TheVariants.{SetAttr, SetXAttr, RemoveXAttr}
 use Rattle.fuse_protocol.specs.declared.reply.Time.{Time}
+use Rattle.fuse_state.specs.declared.removed.RemovedDirectory.{RemovedDirectory}
 use Rattle.fuse_state.specs.Servers.{Server, with_change_time}
 use Rattle.fuse_state.specs.Stamps.{stamp_of}
 use Rattle.fuse_plans.specs.declared.reply.ReplyBody.{ReplyBody}
@@ -34,8 +35,9 @@ use Rattle.fuse_plans.specs.RequestErrors.{failed, is_for}
 use Rattle.fuse_plans.specs.Works.{goes_on, ask, give, keep, fail, attempt, refusal_in, ◌>>=◌}
 use Rattle.fuse_plans.specs.Plans.{Finish, followed_by, KeepsTo}
 use Rattle.fuse_plans.specs.Callers.{actor_in, object_error, of_object, on}
-use Rattle.fuse_plans.specs.AttributePlans.{is_now, stamp_set, tell_attributes, get_attributes, resize_object, set_size, set_owners, set_mode, or_not_permitted, may_set_times, set_stamps_if, set_stamps, change_attributes, tell_times, set_attributes, read_link, or_of_link, ask_access}
-use Rattle.fuse_plans.specs.AclPlans.{sized, get_xattr, names_if, list_xattrs, acl_set, or_not_for_files, set_acl, set_xattr, remove_xattr}
+use Rattle.fuse_plans.specs.AttributePlans.{is_now, stamp_set, tell_attributes, removed_body, get_attributes, resize_object, set_size, set_owners, set_mode, or_not_permitted, may_set_times, set_stamps_if, set_stamps, change_attributes, tell_times, set_attributes, read_link, or_of_link, ask_access}
+use Rattle.fuse_plans.specs.RemovedPlans.{removed_instead, or_of_removed}
+use Rattle.fuse_plans.specs.AclPlans.{acl_at, sized, get_xattr, names_if, list_xattrs, acl_set, or_not_for_files, set_acl, set_xattr, remove_xattr}
 use Rattle.fuse_plans.specs.Acts.{AskedBefore, of_node}
 use Rattle.fuse_plans.specs.Alterations.{sets_list, sets_mode, resizes, resizes_open, says_change_in}
 use Rattle.fuse_plans.specs.Conduct.{sets}
@@ -59,9 +61,19 @@ module _ {rights : Role} {k : Nodes} {known : AskedBefore} where
 
 -- ---- attributes
 
+-- what is gone may be a directory that was removed
+module _ {rights : Role} {k : Nodes} {known : AskedBefore} where
+  does-removed_instead : (node : ℕ) (e : RequestError) → Does rights k known (removed_instead node e)
+  does-removed_instead node e = does-if _ _ _ (does->>= (does-kept _) (λ removed. forget (does-needed e removed))) (does-fail e)
+
+  does-or_of_removed : {X : Type 0} (node : ℕ) (f : RemovedDirectory → Server → X) (found : Result X RequestError) → Does rights k known (or_of_removed node f found)
+  does-or_of_removed node f (Ok x) = does-give x
+  does-or_of_removed node f (Err e) = does->>= (does-removed_instead node e) (λ removed. does-kept _)
+
 module _ {rights : Role} {known : AskedBefore} where
   pub does-get_attributes : (r : Asked) → IsFor rights r → Does rights still known (get_attributes r)
-  does-get_attributes r of = with->>= (gives-own of) (λ n own. does->>= (does-look n (own-object own)) does-tell_attributes)
+  does-get_attributes r of =
+      does->>= (does-attempt (with->>= (gives-own of) (λ n own. does->>= (does-look n (own-object own)) does-tell_attributes))) (does-or_of_removed r.node removed_body)
 
 -- the handle that a change of the size is asked by is the one of the request
 abbrev pub HandleIs : Role → Option ℕ → Type 0
@@ -185,27 +197,28 @@ module _ {rights : Role} {k : Nodes} {known : AskedBefore} where
   does-sized : (size has : ℕ) (body : ReplyBody) → Does rights k known (sized size has body)
   does-sized size has body = does-if _ _ _ (does-give _) (does-if _ _ _ (does-fail _) (does-give body))
 
-  -- a link has none
-  does-names_if : (n : ℕ) (access : Result (Option AccessList) RequestError) → About rights known n → Does rights k known (names_if n access)
-  does-names_if n (Ok access) about = does->>= (does-acl_of n Default about) (λ default. does-give _)
-  does-names_if n (Err (Lacks EOPNOTSUPP)) about = does-give []
-  does-names_if n _ about = does-fail _
-
   does-acl_set : (n : ℕ) (which : AclType) (acl : Option AccessList) → About rights known n → Does rights k known (acl_set n which acl)
   does-acl_set n which acl about = does-if _ _ _ (does->>= (does-look n about) (λ status. does-give _)) (does-give _)
 
 module _ {rights : Role} {known : AskedBefore} (r : Asked) (of : IsFor rights r) where
+  does-acl_at : (which : AclType) → Does rights still known (acl_at r.node which)
+  unfolding acl_at
+  does-acl_at which = does->>= (does-attempt (with->>= (gives-own of) (λ n own. does-acl_of n which (own-object own)))) (does-or_of_removed r.node _)
+
   pub does-get_xattr : (name : List ℕ) (size : ℕ) → Does rights still known (get_xattr r name size)
   does-get_xattr name size =
       does->>= (does-needed _ _) (λ which.
-      with->>= (gives-own of) (λ n own.
-      does->>= (does-acl_of n which (own-object own)) (λ found.
-      does->>= (does-needed _ found) (λ acl. does-sized size _ _))))
+      does->>= (does-acl_at which) (λ found.
+      does->>= (does-needed _ found) (λ acl. does-sized size _ _)))
+
+  -- a link has none
+  does-names_if : (access : Result (Option AccessList) RequestError) → Does rights still known (names_if r.node access)
+  does-names_if (Ok access) = does->>= (does-acl_at Default) (λ default. does-give _)
+  does-names_if (Err (Lacks EOPNOTSUPP)) = does-give []
+  does-names_if _ = does-fail _
 
   pub does-list_xattrs : (size : ℕ) → Does rights still known (list_xattrs r size)
-  does-list_xattrs size =
-      with->>= (gives-own of) (λ n own.
-      does->>= (does->>= (does-attempt (does-acl_of n AccessAcl (own-object own))) (λ access. does-names_if n access (own-object own))) (λ names. does-sized size _ _))
+  does-list_xattrs size = does->>= (does->>= (does-attempt (does-acl_at AccessAcl)) does-names_if) (λ names. does-sized size _ _)
 
   -- by what is replied it is known whether it was set
   lasts-acl_set : {n : ℕ} {cred : Credential} (which : AclType) (acl : Option AccessList) → Told rights.subject.operation (sets_list which)

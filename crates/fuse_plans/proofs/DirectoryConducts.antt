@@ -64,10 +64,9 @@ module _ {rights : Role} {known : AskedBefore} where
 
   pub does-open_directory : (r : Asked) → IsFor rights r → Does rights still known (open_directory r)
   does-open_directory r of =
-      with->>= (gives-own of) (λ n own.
       with->>= (gives-caller _ of.cred) (λ cred who.
-      does->>= (does-attempt (does-on cred n _ (acts-on _ who refl tt (own-object own)) (a-look (λ reply. refl) refl))) (λ read.
-      does->>= (does-or_removed read) (λ may. does-take_directory cred.uid r.node))))
+      does->>= (does-attempt (with->>= (gives-own of) (λ n own. forget (does-on cred n _ (acts-on _ who refl tt (own-object own)) (a-look (λ reply. refl) refl))))) (λ read.
+      does->>= (does-or_removed read) (λ may. does-take_directory cred.uid r.node)))
 
   pub does-close_directory : (handle : ℕ) → Does rights still known (close_directory handle)
   unfolding close_directory

@@ -18,8 +18,9 @@ use Rattle.fs_model.specs.declared.reply.Status.{Status}
 use Rattle.fuse_protocol.specs.declared.operation.Operation.{Operation}
 use Rattle.fuse_protocol.specs.declared.operation.Operation.TheVariants.{Rename, Link}
 use Rattle.fuse_protocol.specs.declared.reply.Time.{Time}
-use Rattle.fuse_state.specs.Servers.{Server, number_of_node}
-use Rattle.fuse_state.specs.Changes.{with_new_object, removed, moved, linked}
+use Rattle.fuse_state.specs.declared.removed.RemovedDirectory.{RemovedDirectory}
+use Rattle.fuse_state.specs.Servers.{Server, number_of_node, with_new_contents, with_removed_directory}
+use Rattle.fuse_state.specs.Changes.{changed_if, with_new_object, removed, moved, linked}
 use Rattle.fuse_plans.specs.declared.request_error.RequestError.{RequestError}
 use Rattle.fuse_plans.specs.declared.request_error.RequestError.TheVariants.{Lacks}
 use Rattle.fuse_plans.specs.declared.request_error.OtherErrno.TheVariants.{ESTALE}
@@ -29,7 +30,8 @@ use Rattle.fuse_plans.specs.Works.{goes_on, ◌>>=◌, ask, give, fail, keep, gi
 use Rattle.fuse_plans.specs.Flags.{making}
 use Rattle.fuse_plans.specs.Laws.{made_by}
 use Rattle.fuse_plans.specs.Callers.{inside, server_credential, actor_at, actor_in}
-use Rattle.fuse_plans.specs.NamePlans.{plain_name, directory_for, tell_named, or_absent, searched_directory, found_or_absent, find_inside, searcher, find_name, new_valid_if, new_valid, tell_made, make_by, make_link, make_directory, make_file, number_named_if, number_named, remove, none_there, nothing_to_replace, may_move, rename, move_name, link_as, add_link}
+use Rattle.fuse_plans.specs.NamePlans.{plain_name, directory_for, tell_named, or_absent, searched_directory, found_or_absent, find_inside, searcher, find_name, new_valid_if, new_valid, tell_made, make_by, make_link, make_directory, make_file, removal, remove, none_there, nothing_to_replace, may_move, rename, move_name, link_as, add_link}
+use Rattle.fuse_plans.specs.RemovedPlans.{number_in, look_before_if, look_before, last_shown_if, last_shown}
 use Rattle.fuse_plans.specs.Acts.{Subject, AskedBefore, given_name, IsObject, of_old_node, IsGivenName, IsNewName, is_new, path_of, on_name, on_new_name, moves, links}
 use Rattle.fuse_plans.specs.Conduct.{only_looks, MayCall, as_who_asks, as_server}
 use Rattle.fuse_plans.specs.Alterations.{adds_name, links_name, takes_name, moves_name, alterations_by, IsToldIn, AreTold}
@@ -41,15 +43,29 @@ use Rattle.fuse_plans.proofs.Calls.{lasts-changed, do-later, IsOpened, About, an
 
 -- ---- what the server keeps
 
-removed-same : (now : Time) (d : ℕ) (gone : Option ℕ) → SameAll (removed now d gone)
-removed-same now d None s = (refl, refl)
-removed-same now d (Some n) s = (refl, refl)
+last-same : (last : Option RemovedDirectory) → SameAll (with_removed_directory last)
+last-same None s = (refl, refl)
+last-same (Some d) s = (refl, refl)
 
-moved-same : (now : Time) (d new : ℕ) (object replaced : Option ℕ) → SameAll (moved now d new object replaced)
-moved-same now d new None None s = (refl, refl)
-moved-same now d new None (Some k) s = (refl, refl)
-moved-same now d new (Some n) None s = (refl, refl)
-moved-same now d new (Some n) (Some k) s = (refl, refl)
+-- one change behind another
+both-same : (f g : Server → Server) → SameAll f → SameAll g → SameAll (λ s. g (f s))
+both-same f g first later s = ((later (f s)).0 ∙ (first s).0, (later (f s)).1 ∙ (first s).1)
+
+removed-same : (now : Time) (d : ℕ) (gone : Option ℕ) (last : Option RemovedDirectory) → SameAll (removed now d gone last)
+removed-same now d gone last = both-same _ (with_removed_directory last) (names gone) (last-same last)
+  where
+    names : (gone : Option ℕ) → SameAll (λ s. with_new_contents now d (changed_if now gone s))
+    names None s = (refl, refl)
+    names (Some n) s = (refl, refl)
+
+moved-same : (now : Time) (d new : ℕ) (object replaced : Option ℕ) (last : Option RemovedDirectory) → SameAll (moved now d new object replaced last)
+moved-same now d new object replaced last = both-same _ (with_removed_directory last) (names object replaced) (last-same last)
+  where
+    names : (object replaced : Option ℕ) → SameAll (λ s. with_new_contents now new (with_new_contents now d (changed_if now object (changed_if now replaced s))))
+    names None None s = (refl, refl)
+    names None (Some k) s = (refl, refl)
+    names (Some n) None s = (refl, refl)
+    names (Some n) (Some k) s = (refl, refl)
 
 -- a LINK is shown after it was made
 linking : {o : Option Operation} {node : ℕ} {name : List ℕ} {A : Type 0} → o ≡ Some (Link node name) → at_once_in o ≡ true → A
@@ -114,14 +130,24 @@ module _ {rights : Role} {k : Nodes} {known : AskedBefore} where
   unfolding new_valid
   does-new_valid d about = does->>= (does-kept _) (λ settings. does-new_valid_if d _ _ about)
 
-  does-number_named_if : (keeps : Bool) (d : ℕ) (name : List ℕ) → MayDo rights known (CallAt (actor_in server_credential d) (Lstat name))
-      → Does rights k known (number_named_if keeps d name)
-  does-number_named_if true d name may = does-give None
-  does-number_named_if false d name may = does->>= (does-attempt (does-look_inside server_credential d name may)) (λ seen. does-give _)
+  does-look_before_if : (has_to : Bool) (d : ℕ) (name : List ℕ) → MayDo rights known (CallAt (actor_in server_credential d) (Lstat name))
+      → Does rights k known (look_before_if has_to d name)
+  does-look_before_if false d name may = does-give None
+  does-look_before_if true d name may = does->>= (does-attempt (does-look_inside server_credential d name may)) (λ seen. does-give _)
 
-  does-number_named : (d : ℕ) (name : List ℕ) → MayDo rights known (CallAt (actor_in server_credential d) (Lstat name)) → Does rights k known (number_named d name)
-  unfolding number_named
-  does-number_named d name may = does->>= (does-kept _) (λ keeps. does-number_named_if keeps d name may)
+  does-look_before : (of_directory : Bool) (d : ℕ) (name : List ℕ) → MayDo rights known (CallAt (actor_in server_credential d) (Lstat name))
+      → Does rights k known (look_before of_directory d name)
+  unfolding look_before
+  does-look_before of_directory d name may = does->>= (does-kept _) (λ keeps. does-look_before_if _ d name may)
+
+  does-last_shown_if : (of_directory : Bool) (now : Time) (status : Status) → Does rights k known (last_shown_if of_directory now status)
+  does-last_shown_if false now status = does-give None
+  does-last_shown_if true now status = does->>= (does-told_stamps _) (λ stamps. does-kept _)
+
+  does-last_shown : (now : Time) (seen : Option Status) → Does rights k known (last_shown now seen)
+  unfolding last_shown
+  does-last_shown now None = does-give None
+  does-last_shown now (Some status) = does-last_shown_if _ now status
 
   does-none_there : (there : Result Reply RequestError) → Does rights k known (none_there there)
   does-none_there (Ok reply) = does-fail _
@@ -223,14 +249,17 @@ module _ {rights : Role} (r : Asked) (of : IsFor rights r) where
   module _ {known : AskedBefore} (name : List ℕ) (given : given_name rights.subject.operation ≡ Some name) where
     -- ---- names that go
 
-    pub lasts-remove : (call : List ℕ → Call) → path_of (call name) ≡ Some name → ((reply : Reply) → made_by (call name) reply ≡ None) → (IsToldIn rights.subject.operation (takes_name name) → AreTold rights.subject.operation (alterations_by (call name)))
-        → Told rights.subject.operation (takes_name name) → Lasts rights known (remove r call name)
+    pub lasts-remove : (of_directory : Bool) → path_of (removal of_directory name) ≡ Some name → ((reply : Reply) → made_by (removal of_directory name) reply ≡ None)
+        → (IsToldIn rights.subject.operation (takes_name name) → AreTold rights.subject.operation (alterations_by (removal of_directory name)))
+        → Told rights.subject.operation (takes_name name) → Lasts rights known (remove r of_directory name)
     unfolding inside
-    lasts-remove call path none says takes =
+    lasts-remove of_directory path none says takes =
         lasts-with (gives-directory_for name given) (λ d own.
         lasts-with (gives-caller _ of.cred) (λ cred who.
-        lasts->>= (does-number_named d name (looks-named (in-own name given own))) (λ gone.
-        lasts-changed _ (names-as cred 0 (call name) who path (says takes.is) (in-own name given own)) tt none _ (removed-same r.now d gone) (changing takes) _)))
+        lasts->>= (does-look_before of_directory d name (looks-named (in-own name given own))) (λ gone.
+        lasts->>= (does-last_shown r.now gone) (λ last.
+        lasts-changed _ (names-as cred 0 (removal of_directory name) who path (says takes.is) (in-own name given own)) tt none _ (removed-same r.now d (number_in gone) last)
+        (changing takes) _))))
 
   -- ---- names that lead elsewhere
 
@@ -244,9 +273,11 @@ module _ {rights : Role} (r : Asked) (of : IsFor rights r) where
     lasts-rename : (cred : Credential) (d : ℕ) (name : List ℕ) (new : ℕ) (new_name : List ℕ) → rights.cred ≡ Some cred → IsGivenName rights.subject d name → IsNewName rights.subject new new_name
         → Told rights.subject.operation (moves_name name new_name) → Lasts rights known (rename r.now cred d name new new_name)
     lasts-rename cred d name new new_name who given renamed told =
-        lasts->>= (does-number_named d name (looks-named given)) (λ object.
-        lasts->>= (does-number_named new new_name (looks-new renamed)) (λ replaced.
-        lasts-changed _ (may-do (as_who_asks who, moves name new_name refl given renamed) (told.is, tt)) tt (λ reply. refl) _ (moved-same r.now d new object replaced) (changing told) _))
+        lasts->>= (does-look_before false d name (looks-named given)) (λ object.
+        lasts->>= (does-look_before true new new_name (looks-new renamed)) (λ replaced.
+        lasts->>= (does-last_shown r.now replaced) (λ last.
+        lasts-changed _ (may-do (as_who_asks who, moves name new_name refl given renamed) (told.is, tt)) tt (λ reply. refl) _
+        (moved-same r.now d new (number_in object) (number_in replaced) last) (changing told) _)))
 
   module _ {known : AskedBefore} where
     pub lasts-move_name : (name : List ℕ) (new_node : ℕ) (new_name : List ℕ) (flags : ℕ) → rights.subject.operation ≡ Some (Rename name new_node new_name flags)

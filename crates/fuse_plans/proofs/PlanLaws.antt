@@ -67,14 +67,14 @@ keeps->>= {M} {X} {Y} rule E F w f m s first ok err = keeps-followed_by rule E F
 
 -- of the work of a request, if it has a reply
 abbrev pub IfReplies : (Work ReplyBody → Type 0) → Task → Type 0
-IfReplies P Silent = Unit {0}
+IfReplies P (Silent nodes) = Unit {0}
 IfReplies P (Replying w) = P w
 
 -- also where the machine is told the time first
 pub replies-told : (P : Work ReplyBody → Type 0) (now : Time) → ((w : Work ReplyBody) → P w → P (tell_time now >> w)) → (tells : Bool) (task : Task)
     → IfReplies P task → IfReplies P (told_first tells now task)
 replies-told P now told false task is = is
-replies-told P now told true Silent is = tt
+replies-told P now told true (Silent nodes) is = tt
 replies-told P now told true (Replying w) is = told w is
 
 -- ---- what is asked

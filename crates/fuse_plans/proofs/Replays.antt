@@ -64,7 +64,9 @@ use Rattle.fuse_plans.specs.RequestErrors.{error_number}
 use Rattle.fuse_plans.specs.Requests.{Outside, credential_for, Request}
 use Rattle.fuse_plans.specs.Works.{give, fail, kept, keep, ◌>>=◌, attempt, ask}
 use Rattle.fuse_plans.specs.Callers.{actor_in, inside, look_inside, on, look, the_number}
-use Rattle.fuse_plans.specs.NamePlans.{new_valid, tell_made, number_named}
+use Rattle.fuse_plans.specs.NamePlans.{new_valid, tell_made}
+use Rattle.fuse_plans.specs.RemovedPlans.{look_before, last_shown}
+use Rattle.fuse_plans.specs.AclPlans.{acl_at}
 use Rattle.fuse_plans.specs.FilePlans.{open_or_make, look_open, tell_created, write_piece, write_pieces, write_runs, touch_open}
 use Rattle.fuse_plans.specs.AttributePlans.{set_stamps}
 use Rattle.fuse_plans.specs.DirectoryPlans.{take_directory, entry_kind, tell_names, list_all, list_kept, read_directory, close_directory, sync_all}
@@ -144,7 +146,7 @@ counted_from s m rs r =
 
 -- all that a plan computes with
 unfoldable pub all_plans : Unit {0}
-unfolding give fail kept keep ◌>>=◌ attempt ask inside look_inside on look the_number new_valid tell_made number_named open_or_make look_open tell_created write_piece write_pieces write_runs touch_open set_stamps take_directory tell_names list_all list_kept read_directory close_directory sync_all look_up_names read_directory_plus is_masked is_granted tell_time told_stamps begin count_space end request_plan
+unfolding give fail kept keep ◌>>=◌ attempt ask inside look_inside on look the_number new_valid tell_made look_before last_shown acl_at open_or_make look_open tell_created write_piece write_pieces write_runs touch_open set_stamps take_directory tell_names list_all list_kept read_directory close_directory sync_all look_up_names read_directory_plus is_masked is_granted tell_time told_stamps begin count_space end request_plan
 all_plans = tt
 
 -- and all that the machine does

@@ -16,7 +16,8 @@ use Rattle.fuse_protocol.specs.declared.operation.Operation.{Operation}
 use Rattle.fuse_protocol.specs.declared.operation.Operation.TheVariants.{Lookup, Forget, GetAttr, SetAttr, ReadLink, SymLink, MkNod, MkDir, Unlink, RmDir, Rename, Link, Open, Read, Write, StatFs, Release, FSync, SetXAttr, GetXAttr, ListXAttr, RemoveXAttr, Init, OpenDir, ReadDir, ReadDirPlus, ReleaseDir, FSyncDir, Access, Create, Interrupt, Destroy, BatchForget, SyncFs, Unknown}
 use Rattle.fuse_protocol.specs.declared.reply.Time.{Time}
 use Rattle.fuse_state.specs.declared.times.Times.{Times}
-use Rattle.fuse_state.specs.Servers.{Server}
+use Rattle.fuse_state.specs.Servers.{Server, without_nodes}
+use Rattle.fuse_state.proofs.Holders.{same_within}
 use Rattle.fuse_plans.specs.declared.request.Asked.{Asked}
 use Rattle.fuse_plans.specs.declared.reply.ReplyBody.{ReplyBody}
 use Rattle.fuse_plans.specs.declared.reply.Response.{Response}
@@ -26,7 +27,6 @@ use Rattle.fuse_plans.specs.Plans.{Plan, Finish, Ask, IsRunOf, KeepsTo, after_al
 use Rattle.fuse_plans.specs.Requests.{Request, asked_of}
 use Rattle.fuse_plans.specs.Alterations.{says_change, MayBeAsked, AsksOnly}
 use Rattle.fuse_plans.specs.Nobody.{who_counts_in, is_nobody}
-use Rattle.fuse_plans.specs.NamePlans.{removal}
 use Rattle.fuse_plans.specs.Acts.{AskedBefore, name_of_operation, given_name}
 use Rattle.fuse_plans.specs.Conduct.{releases_in, releases, conduct}
 use Rattle.fuse_plans.specs.Serving.{Task, Replying, Silent, plan_of, asked_for, response_of, answered, answered_as, request_plan}
@@ -35,7 +35,7 @@ use Rattle.fuse_plans.specs.Laws.{handle_of_operation, handle_in, rights_of, End
 use Rattle.fuse_plans.proofs.PlanLaws.{Whatever, IfReplies, replies-told, keeps-followed_by, keeps-follows}
 use Rattle.fuse_plans.proofs.Said.{told-by}
 use Rattle.fuse_plans.proofs.Roles.{Role, rights_in, role_of, doing}
-use Rattle.fuse_plans.proofs.Conducts.{CleanIf, spared, still, begins, Left, EndsTo, LastsTo, left, does-fail, does-lasts, lasts->>=}
+use Rattle.fuse_plans.proofs.Conducts.{CleanIf, Fits, spared, still, begins, Left, EndsTo, LastsTo, left, does-fail, does-lasts, lasts->>=}
 use Rattle.fuse_plans.proofs.Calls.{IsFor, does-tell_time}
 use Rattle.fuse_plans.proofs.NobodyConducts.{NoneMade, keeps-who_counts_in}
 use Rattle.fuse_plans.proofs.NameConducts.{does-find_name, lasts-make_link, lasts-make_directory, lasts-make_file, lasts-remove, lasts-move_name, does-add_link}
@@ -76,8 +76,8 @@ module _ (rights : Role) (r : Asked) (of : IsFor rights r) where
   lasts-plan value (SymLink name target) asked given = lasts-make_link r of name (gives_name _ asked name refl) (told-by asked refl) target
   lasts-plan value (MkNod name mode umask) asked given = lasts-make_file r of name (gives_name _ asked name refl) (told-by asked refl) mode umask given
   lasts-plan value (MkDir name mode umask) asked given = lasts-make_directory r of name (gives_name _ asked name refl) (told-by asked refl) mode umask
-  lasts-plan value (Unlink name) asked given = lasts-remove r of name (gives_name _ asked name refl) (removal false) refl (λ reply. refl) (λ takes. (takes, tt)) (told-by asked refl)
-  lasts-plan value (RmDir name) asked given = lasts-remove r of name (gives_name _ asked name refl) (removal true) refl (λ reply. refl) (λ takes. (takes, tt)) (told-by asked refl)
+  lasts-plan value (Unlink name) asked given = lasts-remove r of name (gives_name _ asked name refl) false refl (λ reply. refl) (λ takes. (takes, tt)) (told-by asked refl)
+  lasts-plan value (RmDir name) asked given = lasts-remove r of name (gives_name _ asked name refl) true refl (λ reply. refl) (λ takes. (takes, tt)) (told-by asked refl)
   lasts-plan value (Rename name new_directory new_name flags) asked given = lasts-move_name r of name new_directory new_name flags asked
   lasts-plan value (Link node name) asked given = does-lasts (does-add_link r of node name asked)
   lasts-plan value (Open flags) asked given = lasts-open_file r of flags.0 (λ is. told-by asked (is, refl))
@@ -117,9 +117,16 @@ Ended rights o past (Says body, s) = Left rights past s × Told rights o past bo
 Ended rights o past (Fails e, s) = Left rights past s × CleanIf rights past
 Ended rights o past (Silence, s) = Left rights past s
 
+-- nodes that are forgotten count for none of it
+left-without : {rights : Role} {known past : AskedBefore} {s : Server} (nodes : List ℕ) → Fits rights still known past s → Left rights past (without_nodes nodes s)
+left-without {s = s} nodes fits =
+    let whole = left fits in
+    record { shares = λ start. same_within s (without_nodes nodes s) refl (whole.shares start); clock = whole.clock; times = whole.times; nodes = whole.nodes }
+
 keeps-answered : (rights : Role) (o : Option Operation) (s : Server) → rights.subject.start ≡ s → (memory : Bool) (task : Task) → LastsIfAny rights o task
     → (past : AskedBefore) → NoneMade rights past s → KeepsTo (doing rights) (Ended rights o) past (answered memory task s)
-keeps-answered rights o s start memory Silent lasts past none = left (begins rights s start past none.0 none.1)
+keeps-answered rights o s start true (Silent nodes) lasts past none = left-without nodes (begins rights s start past none.0 none.1)
+keeps-answered rights o s start false (Silent nodes) lasts past none = left (begins rights s start past none.0 none.1)
 keeps-answered rights o s start false (Replying w) lasts past none = spared (begins rights s start past none.0 none.1)
 keeps-answered rights o s start true (Replying w) lasts past none =
     keeps-followed_by (doing rights) (EndsTo rights (Told rights o)) (Ended rights o) (w s) (λ r. Finish (response_of r.0, r.1)) past

@@ -4,10 +4,11 @@ use Rattle.std.specs.Prelude.{ℕ, [], ◌∷◌, codes, None, Some}
 use Rattle.std.proofs.Common.{refl}
 use Rattle.fs_model.specs.declared.reply.FileType.TheVariants.{File, Directory, Link as LinkType}
 use Rattle.fuse_protocol.specs.declared.operation.Operation.{Operation}
-use Rattle.fuse_protocol.specs.declared.operation.Operation.TheVariants.{Lookup, GetAttr, SetAttr, SymLink, MkNod, MkDir, Unlink, RmDir, Rename, Link as AddLink, Read as ReadFile, Write as WriteFile, Release, OpenDir, ReadDir, Access as AskAccess, Create}
-use Rattle.fuse_plans.specs.declared.reply.ReplyBody.TheVariants.{Wrote as WroteBytes}
+use Rattle.fuse_protocol.specs.declared.operation.Operation.TheVariants.{Lookup, Forget, GetAttr, SetAttr, SymLink, MkNod, MkDir, Unlink, RmDir, Rename, Link as AddLink, Read as ReadFile, Write as WriteFile, Release, GetXAttr, ListXAttr, OpenDir, ReadDir, Access as AskAccess, Create, BatchForget}
+use Rattle.fuse_plans.specs.declared.reply.ReplyBody.TheVariants.{Wrote as WroteBytes, Size}
+use Rattle.fuse_plans.specs.AclPlans.{access_name}
 use Rattle.fuse_plans.specs.Requests.{Request}
-use Rattle.fuse_plans.proofs.Replays.{all_runs, timekeeping, keeping, asks, kernel, root, init, no_changes, set_mode, set_owner, set_size, set_size_by, flags, reading, extent, status, shown, found, made, created, opened, done, begun, node, entries, ◌hears◌, AreHeardFrom, AreHeard, Told, Error}
+use Rattle.fuse_plans.proofs.Replays.{all_runs, timekeeping, keeping, asks, kernel, root, init, no_changes, set_mode, set_owner, set_size, set_size_by, flags, reading, extent, status, shown, found, made, created, opened, done, begun, node, entries, ◌hears◌, AreHeardFrom, AreHeard, Silent, Told, Error}
 
 -- user 1000 of group 100, and of group 7
 abbrev member : ℕ → ℕ → Operation → Request
@@ -55,7 +56,8 @@ handles_for_something_else = refl
 
 -- ---- directories that were removed
 
--- Nothing is made there, moved there or found there; it is opened, and has no names; and else its node is stale.
+-- Nothing is made there, moved there or found there; it is opened, and has no names; it is shown without a link or a list, until the kernel
+-- forgets it; and else its node is stale.
 pub in_a_removed_directory : AreHeard (
     kernel 0 1 init hears begun
     ∷ root 1 2 (MkDir (codes "d") 0o755 0) hears made (node 1 2) (status 2 Directory 0o755 1 0 0 0) 2
@@ -71,12 +73,43 @@ pub in_a_removed_directory : AreHeard (
     ∷ root (node 1 2) 4 (Unlink (codes "e")) hears Error 2
     ∷ root (node 1 2) 4 OpenDir hears opened 0
     ∷ root (node 1 2) 4 (ReadDir (extent 0 0 4096)) hears Told (entries [])
-    ∷ root (node 1 2) 4 GetAttr hears Error 116
+    ∷ root (node 1 2) 4 GetAttr hears shown (status 2 Directory 0o755 0 0 0 0) 2 2 3
+    ∷ root (node 1 2) 4 (GetXAttr access_name 0) hears Error 61
+    ∷ root (node 1 2) 4 (ListXAttr 0) hears Told (Size 0)
     ∷ root (node 1 2) 4 (AskAccess 4) hears Error 116
     ∷ root (node 1 2) 4 (set_mode 0o40700) hears Error 116
+    ∷ kernel (node 1 2) 5 (Forget 1) hears Silent
+    ∷ root (node 1 2) 5 GetAttr hears Error 116
+    ∷ root (node 1 2) 5 (GetXAttr access_name 0) hears Error 116
     ∷ [])
 unfolding all_runs
 in_a_removed_directory = refl
+
+-- one in whose place another is moved, which is shown under its own number
+pub a_replaced_directory : AreHeard (
+    kernel 0 1 init hears begun
+    ∷ root 1 2 (MkDir (codes "d") 0o755 0) hears made (node 1 2) (status 2 Directory 0o755 1 0 0 0) 2
+    ∷ root 1 3 (MkDir (codes "e") 0o700 0) hears made (node 1 3) (status 3 Directory 0o700 1 0 0 0) 3
+    ∷ root 1 4 (Rename (codes "d") 1 (codes "e") 0) hears done
+    ∷ root (node 1 3) 5 GetAttr hears shown (status 3 Directory 0o700 0 0 0 0) 3 3 4
+    ∷ root (node 1 2) 5 GetAttr hears shown (status 2 Directory 0o755 1 0 0 0) 2 2 4
+    ∷ kernel 0 6 (BatchForget ((node 1 2, 1) ∷ (node 1 3, 2) ∷ [])) hears Silent
+    ∷ root (node 1 3) 6 GetAttr hears Error 116
+    ∷ root (node 1 2) 6 GetAttr hears shown (status 2 Directory 0o755 1 0 0 0) 2 2 4
+    ∷ [])
+unfolding all_runs
+a_replaced_directory = refl
+
+-- A directory that can't be removed is shown as it is.
+pub a_directory_that_stays : AreHeard (
+    kernel 0 1 init hears begun
+    ∷ root 1 2 (MkDir (codes "d") 0o755 0) hears made (node 1 2) (status 2 Directory 0o755 1 0 0 0) 2
+    ∷ root (node 1 2) 3 (MkNod (codes "f") 0o100644 0) hears made (node 1 3) (status 3 File 0o644 1 0 0 0) 3
+    ∷ root 1 4 (RmDir (codes "d")) hears Error 39
+    ∷ root (node 1 2) 5 GetAttr hears shown (status 2 Directory 0o755 1 0 0 128) 2 3 3
+    ∷ [])
+unfolding all_runs
+a_directory_that_stays = refl
 
 -- ---- groups
 

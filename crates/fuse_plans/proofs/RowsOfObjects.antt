@@ -8,14 +8,14 @@ use Rattle.fs_model.specs.declared.reply.FileType.TheVariants.{File, Directory, 
 use Rattle.fs_model.proofs.Machine.{fresh}
 use Rattle.fuse_protocol.specs.declared.operation.NewTime.TheVariants.{Now, At as AtTime}
 use Rattle.fuse_protocol.specs.declared.operation.Operation.{Operation}
-use Rattle.fuse_protocol.specs.declared.operation.Operation.TheVariants.{Lookup, GetAttr, ReadLink, SymLink, MkDir, Unlink, RmDir, OpenDir, Link as AddLink, Open as OpenFile, Read as ReadFile, Write as WriteFile, Release, SetXAttr, GetXAttr, ListXAttr, RemoveXAttr, Access as AskAccess, Create}
+use Rattle.fuse_protocol.specs.declared.operation.Operation.TheVariants.{Lookup, Forget, GetAttr, ReadLink, SymLink, MkDir, Unlink, RmDir, OpenDir, Link as AddLink, Open as OpenFile, Read as ReadFile, Write as WriteFile, Release, SetXAttr, GetXAttr, ListXAttr, RemoveXAttr, Access as AskAccess, Create}
 use Rattle.fuse_protocol.specs.AclValues.{acl_value_bytes}
 use Rattle.fuse_plans.specs.declared.reply.ReplyBody.TheVariants.{Bytes, Wrote as WroteBytes, Acl, Size}
 use Rattle.fuse_plans.specs.declared.request.WhoCounts.{WhoCounts}
 use Rattle.fuse_plans.specs.declared.request.WhoCounts.TheVariants.{Nobody, User, Process}
 use Rattle.fuse_plans.specs.Requests.{Request}
 use Rattle.fuse_plans.specs.AclPlans.{access_name}
-use Rattle.fuse_plans.proofs.Replays.{counted_from, all_runs, new, asks, asks_with, kernel, root, user, another, init, set_mode, set_owner, set_times, set_size, set_size_by, flags, reading, writing, extent, status, shown, found, made, created, opened, done, begun, node, acl, ◌hears◌, AreHeard, ◌is◌, EachIs, Told, Error}
+use Rattle.fuse_plans.proofs.Replays.{counted_from, all_runs, new, asks, asks_with, kernel, root, user, another, init, set_mode, set_owner, set_times, set_size, set_size_by, flags, reading, writing, extent, status, shown, found, made, created, opened, done, begun, node, acl, ◌hears◌, AreHeard, ◌is◌, EachIs, Silent, Told, Error}
 
 -- ---- lists
 
@@ -88,7 +88,8 @@ pub unlinked_while_it_is_open : AreHeard (
 unfolding all_runs acl_value_bytes
 unlinked_while_it_is_open = refl
 
--- A file goes, and another that is made gets its number: that has a node of its own, and the one before is stale for each request.
+-- A file goes, and another that is made gets its number: that has a node of its own, and the one before is stale for each request. What was
+-- a directory is shown as it was, until the kernel forgets it.
 pub a_number_is_given_again : AreHeard (
     kernel 0 2 init hears begun
     ∷ root 1 2 (Create (codes "f") (flags 0o102) 0o100644 0) hears created (node 1 2) (status 2 File 0o644 1 0 0 0) 2 1
@@ -102,9 +103,12 @@ pub a_number_is_given_again : AreHeard (
     ∷ root 1 7 (AddLink (node 1 2) (codes "h")) hears Error 116
     ∷ root (node 2 2) 8 GetAttr hears shown (status 2 Directory 0o755 1 0 0 0) 6 6 6
     ∷ root 1 9 (RmDir (codes "g")) hears done
-    ∷ root (node 2 2) 9 GetAttr hears Error 116
+    ∷ root (node 2 2) 9 GetAttr hears shown (status 2 Directory 0o755 0 0 0 0) 6 6 9
     ∷ root 1 10 (SymLink (codes "g") (codes "f")) hears made (node 3 2) (status 2 LinkType 0o777 1 0 0 1) 10
     ∷ root (node 1 2) 11 GetAttr hears Error 116
+    ∷ root (node 2 2) 11 GetAttr hears shown (status 2 Directory 0o755 0 0 0 0) 6 6 9
+    ∷ root (node 2 2) 11 OpenDir hears opened 0
+    ∷ kernel (node 2 2) 11 (Forget 2) hears Silent
     ∷ root (node 2 2) 11 GetAttr hears Error 116
     ∷ root (node 3 2) 11 ReadLink hears Told (Bytes (codes "f"))
     ∷ [])

@@ -70,7 +70,7 @@ pub made_unseen : ArePlayed new (
     first CallAt (actor_at (usual_credential 0 0 []) 0o22 1 1) (Mkdir (codes "e") 0o755) gets Made 4
     then at 0 0 4 (Lstat []) gets failed EIO
     hears Error 5
-    ∷ root (node 1 4) 1000000006 GetAttr through [] hears Error 116
+    ∷ root (node 1 4) 1000000006 GetAttr through [] hears shown (status 4 Directory 0o755 0 0 0 0) 1000000003 1000000003 1000000004
     ∷ root (node 1 4) 1000000006 (Lookup (codes "f")) through [] hears Error 2
     ∷ root (node 1 4) 1000000006 (RmDir (codes "f")) through [] hears Error 116
     ∷ root 1 1000000007 (Lookup (codes "e"))
@@ -78,7 +78,7 @@ pub made_unseen : ArePlayed new (
     then at 0 0 1 (GetAcl [] AccessAcl) gets Acl (Some (minimal 0o755))
     then at 0 0 1 (Lstat (codes "e")) gets Shown (status 4 Directory 0o755 1 0 0 0)
     hears made (node 2 4) (status 4 Directory 0o755 1 0 0 0) 1000000005
-    ∷ root (node 1 4) 1000000008 GetAttr through [] hears Error 116
+    ∷ root (node 1 4) 1000000008 GetAttr through [] hears shown (status 4 Directory 0o755 0 0 0 0) 1000000003 1000000003 1000000004
     ∷ root (node 1 4) 1000000009 (Lookup (codes "f")) through [] hears Error 2
     ∷ [])
 unfolding all_plans

@@ -15,8 +15,9 @@ use Rattle.fs_cred.specs.Credentials.{Credential}
 use Rattle.fs_model.specs.declared.call.AclType.{AclType}
 use Rattle.fs_model.specs.declared.reply.Status.{Status}
 use Rattle.fuse_protocol.specs.declared.operation.Operation.{Operation}
-use Rattle.fuse_protocol.specs.declared.operation.Operation.TheVariants.{Lookup, Forget, SymLink, MkNod, MkDir, Create, Interrupt, BatchForget}
+use Rattle.fuse_protocol.specs.declared.operation.Operation.TheVariants.{GetAttr, Lookup, Forget, SymLink, MkNod, MkDir, Create, Interrupt, BatchForget}
 use Rattle.fuse_protocol.specs.declared.reply.Time.{Time}
+use Rattle.fuse_state.specs.declared.removed.RemovedDirectory.{RemovedDirectory}
 use Rattle.fuse_state.specs.Servers.{Server, number_of_node}
 use Rattle.fuse_state.proofs.StateLaws.{lead_back}
 use Rattle.fuse_plans.specs.declared.mode.Mode.{Mode}
@@ -26,10 +27,11 @@ use Rattle.fuse_plans.specs.declared.reply.ReplyBody.{ReplyBody}
 use Rattle.fuse_plans.specs.declared.reply.Response.{Response}
 use Rattle.fuse_plans.specs.declared.reply.Response.TheVariants.{Silence, Says, Fails}
 use Rattle.fuse_plans.specs.declared.request_error.RequestError.{RequestError}
-use Rattle.fuse_plans.specs.Plans.{Plan, Finish, Ask}
-use Rattle.fuse_plans.specs.Works.{Work, give, fail, kept, goes_on, ◌>>=◌}
+use Rattle.fuse_plans.specs.Plans.{Plan, Finish, Ask, followed_by}
+use Rattle.fuse_plans.specs.Works.{Work, give, fail, kept, goes_on, ◌>>=◌, attempt}
 use Rattle.fuse_plans.specs.Alterations.{says_change}
-use Rattle.fuse_plans.specs.AttributePlans.{tell_attributes}
+use Rattle.fuse_plans.specs.AttributePlans.{tell_attributes, removed_body}
+use Rattle.fuse_plans.specs.RemovedPlans.{removed_instead, or_of_removed}
 use Rattle.fuse_plans.specs.NamePlans.{found_or_absent, find_name, tell_named, tell_made}
 use Rattle.fuse_plans.specs.FilePlans.{tell_created, create_by}
 use Rattle.fuse_plans.specs.ListingPlans.{read_directory_plus}
@@ -151,7 +153,7 @@ abbrev pub IfTellsSo : (ReplyBody → Server → Type 0) → Task → Type 0
 IfTellsSo P task = IfReplies (TellsSo P) task
 
 pub if-weaker : {P Q : ReplyBody → Server → Type 0} → ((body : ReplyBody) (t : Server) → P body t → Q body t) → (task : Task) → IfTellsSo P task → IfTellsSo Q task
-if-weaker weaker Silent so = tt
+if-weaker weaker (Silent nodes) so = tt
 if-weaker weaker (Replying w) so = so-weaker weaker so
 
 for-sized : (size has : ℕ) (body : ReplyBody) → ((s : Server) → IsFor 0 body s) → TellsSo (IsFor 0) (sized size has body)
@@ -164,6 +166,21 @@ for-take_directory_if uid node true = so-after _ (λ handle. so-after _ (λ open
 for-set_acl : (r : Asked) (which : AclType) (acl : Option AccessList) → TellsSo (IsFor 0) (set_acl r which acl)
 for-set_acl r which acl =
     so-after _ (λ n. so-after _ (λ cred. so-after _ (λ list. so-after _ (λ set. so-after _ (λ may. so-after _ (λ changed. so-give _ (λ s. (refl, refl))))))))
+
+-- what is gone may be a directory that was removed
+so-or_of_removed : {P : ReplyBody → Server → Type 0} (node : ℕ) (f : RemovedDirectory → Server → ReplyBody) {w : Work ReplyBody}
+    → TellsSo P w → ((d : RemovedDirectory) (s : Server) → P (f d s) s) → TellsSo P (attempt w >>= or_of_removed node f)
+unfolding give attempt ◌>>=◌
+so-or_of_removed {P} node f {w} so is = record { at = λ s. all-twice s (w s) (so.at s) }
+  where
+    later : (e : RequestError) → TellsSo P (removed_instead node e >>= (λ removed. kept (f removed)))
+    later e = so-after _ (λ removed. so-kept _ (is removed))
+
+    all-twice : (s : Server) (p : Plan (Result ReplyBody RequestError × Server)) → AllEnd (EndsSo P) p
+        → AllEnd (EndsSo P) (followed_by (followed_by p (λ r. Finish (Ok r.0, r.1))) (goes_on (or_of_removed node f)))
+    all-twice s (Finish (Ok body, t)) says = says
+    all-twice s (Finish (Err e, t)) says = (later e).at t
+    all-twice s (Ask e next) says = λ reply. all-twice s (next reply) (says reply)
 
 for-tell_attributes : (status : Status) → TellsSo (IsFor 0) (tell_attributes status)
 for-tell_attributes status = so-after _ (λ stamps. so-kept _ (λ s. (refl, refl)))
@@ -191,6 +208,7 @@ plain-plan r value (Create name flags mode umask) is = said-so is
 plain-plan r value (Forget count) is = tt
 plain-plan r value (BatchForget batch) is = tt
 plain-plan r value Interrupt is = tt
+plain-plan r value GetAttr is = so-or_of_removed r.node removed_body (search plain depth 24) (λ d s. (refl, refl))
 plain-plan r value operation is = search plain depth 24
 
 -- ---- requests that name what they make
@@ -229,8 +247,8 @@ SaysSo P (Says body, t) = P body t
 SaysSo P (Fails e, t) = Unit {0}
 
 all-answered : (P : ReplyBody → Server → Type 0) (memory : Bool) (task : Task) (s : Server) → IfTellsSo P task → AllEnd (SaysSo P) (answered memory task s)
-all-answered P true Silent s so = tt
-all-answered P false Silent s so = tt
+all-answered P true (Silent nodes) s so = tt
+all-answered P false (Silent nodes) s so = tt
 all-answered P false (Replying w) s so = tt
 all-answered P true (Replying w) s so = all-followed_by (EndsSo P) (SaysSo P) (w s) (λ r. Finish (response_of r.0, r.1)) (so.at s) says
   where

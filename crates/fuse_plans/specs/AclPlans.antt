@@ -13,13 +13,13 @@ use Rattle.fuse_plans.specs.declared.request_error.RequestError.TheVariants.{Lac
 use Rattle.fuse_plans.specs.RequestErrors.{failed, is_for}
 use Rattle.fuse_plans.specs.declared.request_error.OtherErrno.TheVariants.{EOPNOTSUPP, ENODATA, ERANGE}
 use Rattle.fuse_plans.specs.declared.request.Asked.{Asked}
-use Rattle.fuse_protocol.specs.declared.reply.Time.{Time}
 use Rattle.fuse_plans.specs.declared.reply.ReplyBody.{ReplyBody}
 use Rattle.fuse_plans.specs.declared.reply.ReplyBody.TheVariants.{Nothing, Bytes, Acl, Size}
 use Rattle.fuse_state.specs.Servers.{with_change_time}
 use Rattle.fuse_plans.specs.Works.{Work, give, fail, keep, ◌>>=◌, ◌>>◌, attempt, needed}
 use Rattle.fuse_plans.specs.Callers.{who_asks, on, look, the_number}
 use Rattle.fuse_plans.specs.Masks.{acl_of}
+use Rattle.fuse_plans.specs.RemovedPlans.{or_of_removed}
 
 abbrev pub access_name : List ℕ
 access_name = codes "system.posix_acl_access"
@@ -43,18 +43,28 @@ acl_size a = 4 + 8 * entry_count a
 abbrev pub sized : ℕ → ℕ → ReplyBody → Work ReplyBody
 sized size has body = if size == 0 then give (Size has) else if nat_lt size has then fail (Lacks ERANGE) else give body
 
+abbrev pub acl_of_node : ℕ → AclType → Work (Option AccessList)
+acl_of_node node which = do
+  n ← the_number node
+  acl_of n which
+
+-- An ACL of what a node names. A directory that was removed has none.
+unfoldable pub acl_at : ℕ → AclType → Work (Option AccessList)
+acl_at node which = do
+  found ← attempt (acl_of_node node which)
+  or_of_removed node (λ removed s. None) found
+
 -- an ACL that is there, or how many bytes it has
-abbrev pub tell_acl : ℕ → AclType → ℕ → Work ReplyBody
-tell_acl n which size = do
-  found ← acl_of n which
+abbrev pub tell_acl : ℕ → Option AccessList → Work ReplyBody
+tell_acl size found = do
   acl ← needed (Lacks ENODATA) found
   sized size (acl_size acl) (Acl acl)
 
 abbrev pub get_xattr : Asked → List ℕ → ℕ → Work ReplyBody
 get_xattr r name size = do
   which ← the_acl name
-  n ← the_number r.node
-  tell_acl n which size
+  found ← acl_at r.node which
+  tell_acl size found
 
 abbrev pub name_if : List ℕ → Bool → List ℕ
 name_if name false = []
@@ -66,21 +76,20 @@ acl_names access default = name_if access_name access ++ name_if default_name de
 
 -- a link has none
 abbrev pub names_if : ℕ → Result (Option AccessList) RequestError → Work (List ℕ)
-names_if n (Ok access) = do
-  default ← acl_of n Default
+names_if node (Ok access) = do
+  default ← acl_at node Default
   give (acl_names (is_some access) (is_some default))
-names_if n (Err (Lacks EOPNOTSUPP)) = give []
-names_if n (Err e) = fail e
+names_if node (Err (Lacks EOPNOTSUPP)) = give []
+names_if node (Err e) = fail e
 
 abbrev pub attribute_names : ℕ → Work (List ℕ)
-attribute_names n = do
-  access ← attempt (acl_of n Access)
-  names_if n access
+attribute_names node = do
+  access ← attempt (acl_at node Access)
+  names_if node access
 
 abbrev pub list_xattrs : Asked → ℕ → Work ReplyBody
 list_xattrs r size = do
-  n ← the_number r.node
-  names ← attribute_names n
+  names ← attribute_names r.node
   sized size (length names) (Bytes names)
 
 -- ---- changes

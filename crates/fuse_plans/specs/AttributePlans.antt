@@ -25,10 +25,12 @@ use Rattle.fuse_plans.specs.declared.reply.ReplyBody.{ReplyBody}
 use Rattle.fuse_plans.specs.declared.reply.ReplyBody.TheVariants.{Nothing, Shown, Bytes}
 use Rattle.fuse_state.specs.Servers.{Server, times_of, with_times_of, with_new_contents, with_change_time}
 use Rattle.fuse_state.specs.Stamps.{stamp_of}
+use Rattle.fuse_state.specs.declared.removed.RemovedDirectory.{RemovedDirectory}
 use Rattle.fuse_plans.specs.Works.{Work, give, fail, kept, keep, ◌>>=◌, ◌>>◌, attempt, ask, obtain, replied_stamps, replied_target}
 use Rattle.fuse_plans.specs.Callers.{server_credential, who_asks, on, look, the_number}
 use Rattle.fuse_plans.specs.NamePlans.{attributes}
-use Rattle.fuse_plans.specs.FilePlans.{when, done}
+use Rattle.fuse_plans.specs.RemovedPlans.{or_of_removed}
+use Rattle.fuse_plans.specs.FilePlans.{when}
 use Rattle.fuse_plans.specs.Times.{disk_keeps_times, told_stamps}
 
 abbrev pub tell_attributes : Status → Work ReplyBody
@@ -36,11 +38,20 @@ tell_attributes status = do
   stamps ← told_stamps status.ino
   kept (λ s. Shown (attributes s status stamps))
 
-abbrev pub get_attributes : Asked → Work ReplyBody
-get_attributes r = do
-  n ← the_number r.node
+abbrev pub tell_object : ℕ → Work ReplyBody
+tell_object node = do
+  n ← the_number node
   status ← look n
   tell_attributes status
+
+abbrev pub removed_body : RemovedDirectory → Server → ReplyBody
+removed_body d s = Shown (record { status = d.status; times = d.times; valid = s.settings.keeping.attributes })
+
+-- what is gone may be a directory that was removed
+abbrev pub get_attributes : Asked → Work ReplyBody
+get_attributes r = do
+  told ← attempt (tell_object r.node)
+  or_of_removed r.node removed_body told
 
 -- ---- changes
 

@@ -19,7 +19,7 @@ use Rattle.fuse_plans.specs.declared.request_error.RequestError.{RequestError}
 use Rattle.fuse_plans.specs.declared.request_error.RequestError.TheVariants.{Refuses, Lacks}
 use Rattle.fuse_plans.specs.RequestErrors.{failed, is_for}
 use Rattle.fuse_plans.specs.declared.request_error.OtherErrno.TheVariants.{EOPNOTSUPP, ESTALE}
-use Rattle.fuse_state.specs.Servers.{Server, number_of_node}
+use Rattle.fuse_state.specs.Servers.{number_of_node}
 use Rattle.fuse_plans.specs.Works.{Work, give, fail, kept, ◌>>=◌, ask, needed, obtain, refusal_in, replied_status}
 
 -- ---- who calls

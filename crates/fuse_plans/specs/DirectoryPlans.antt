@@ -3,6 +3,7 @@
 use Rattle.std.specs.Prelude.{ℕ, ◌-◌, ◌==◌, nat_le, Bool, true, false, ◌||◌, List, [], ◌∷◌, length, codes, bytes_eq, Option, Some, Result, Ok, Err, if◌then◌else◌}
 use Rattle.std.specs.List.{flat_map}
 use Rattle.posix_acl.specs.Entries.{perms_of}
+use Rattle.fs_cred.specs.Credentials.{Credential}
 use Rattle.fs_cred.specs.declared.errno.Errno.TheVariants.{EBADF}
 use Rattle.fs_model.specs.declared.call.Call.TheVariants.{Open as OpenCall, Access}
 use Rattle.fs_model.specs.declared.event.Event.TheVariants.{CallBy, Sync}
@@ -55,12 +56,17 @@ or_removed (Ok reply) = give tt
 or_removed (Err (Lacks ESTALE)) = give tt
 or_removed (Err e) = fail e
 
--- asks for reading, as who asks
+-- asks for reading
+abbrev pub ask_reading : Credential → ℕ → Work Reply
+ask_reading cred node = do
+  n ← the_number node
+  on cred n (Access [] (perms_of 4))
+
+-- as who asks
 abbrev pub open_directory : Asked → Work ReplyBody
 open_directory r = do
-  n ← the_number r.node
   cred ← who_asks r.cred
-  read ← attempt (on cred n (Access [] (perms_of 4)))
+  read ← attempt (ask_reading cred r.node)
   or_removed read
   take_directory cred.uid r.node
 

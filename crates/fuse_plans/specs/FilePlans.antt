@@ -1,7 +1,7 @@
 -- Plans of requests for files: to open and create them, and what is done by a handle.
 --     open_file, create_file, read_file, write_file, close_file
 --     pieces_in        bytes, by as many as are written at once: a run, or where there is no space for one a move
-use Rattle.std.specs.Prelude.{ℕ, ◌+◌, ◌/◌, ◌^◌, ◌==◌, nat_lt, suc, zero, Bool, true, false, ◌&&◌, not, List, [], ◌∷◌, take, drop, length, Option, Some, Result, Ok, Err, if◌then◌else◌, bit_and}
+use Rattle.std.specs.Prelude.{ℕ, ◌+◌, ◌/◌, ◌^◌, nat_lt, suc, zero, Bool, true, false, ◌&&◌, not, List, [], ◌∷◌, take, drop, length, Option, Result, Ok, Err, if◌then◌else◌, bit_and}
 use Rattle.posix_acl.specs.Entries.{perms_of}
 use Rattle.fs_cred.specs.Credentials.{Credential}
 use Rattle.fs_cred.specs.declared.errno.Errno.TheVariants.{EEXIST, EINVAL, EFBIG, ENOSPC}

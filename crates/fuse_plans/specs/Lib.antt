@@ -6,6 +6,7 @@ pub mod Times
 pub mod Callers
 pub mod Flags
 pub mod ListingOrder
+pub mod RemovedPlans
 pub mod NamePlans
 pub mod FilePlans
 pub mod AttributePlans

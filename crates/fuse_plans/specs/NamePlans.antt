@@ -1,6 +1,6 @@
 -- Plans of requests for names: each is asked of a directory, and performed as who asks, but for look-ups that need nobody.
 --     find_name, make_link, make_file, make_directory, remove, move_name, add_link
-use Rattle.std.specs.Prelude.{ℕ, ◌==◌, nat_lt, Bool, true, false, not, ◌&&◌, ◌||◌, List, [], codes, bytes_eq, Option, None, Some, Result, Ok, Err, if◌then◌else◌, bit_and}
+use Rattle.std.specs.Prelude.{ℕ, ◌==◌, nat_lt, Bool, true, false, not, ◌&&◌, ◌||◌, List, [], codes, bytes_eq, Option, Result, Ok, Err, if◌then◌else◌, bit_and}
 use Rattle.fs_cred.specs.Credentials.{Credential}
 use Rattle.fs_cred.specs.declared.errno.Errno.TheVariants.{EPERM, ENOENT, EEXIST, EINVAL}
 use Rattle.fs_model.specs.declared.call.Call.{Call}
@@ -26,7 +26,8 @@ use Rattle.fuse_plans.specs.Works.{Work, give, fail, kept, keep, ◌>>=◌, ◌>
 use Rattle.fuse_plans.specs.Callers.{server_credential, actor_at, who_asks, inside, look_inside, look, the_number}
 use Rattle.fuse_plans.specs.Masks.{list_hides}
 use Rattle.fuse_plans.specs.Flags.{making}
-use Rattle.fuse_plans.specs.Times.{disk_keeps_times, told_stamps, times_in}
+use Rattle.fuse_plans.specs.Times.{told_stamps, times_in}
+use Rattle.fuse_plans.specs.RemovedPlans.{look_before, number_in, last_shown}
 
 -- ---- names, and what is told of them
 
@@ -189,30 +190,15 @@ abbrev pub removal : Bool → List ℕ → Call
 removal true name = Rmdir name
 removal false name = Unlink name
 
-abbrev pub number_shown : Result Status RequestError → Option ℕ
-number_shown (Ok status) = Some status.ino
-number_shown (Err e) = None
-
--- Where the server keeps times it has to know which object loses or gets a name.
-abbrev pub number_named_if : Bool → ℕ → List ℕ → Work (Option ℕ)
-number_named_if true d name = give None
-number_named_if false d name = do
-  seen ← attempt (look_inside server_credential d name)
-  give (number_shown seen)
-
-unfoldable pub number_named : ℕ → List ℕ → Work (Option ℕ)
-number_named d name = do
-  keeps ← disk_keeps_times
-  number_named_if keeps d name
-
 -- with unlink or rmdir
-abbrev pub remove : Asked → (List ℕ → Call) → List ℕ → Work ReplyBody
-remove r call name = do
+abbrev pub remove : Asked → Bool → List ℕ → Work ReplyBody
+remove r of_directory name = do
   d ← directory_for r.node name
   cred ← who_asks r.cred
-  gone ← number_named d name
-  inside cred d (call name)
-  keep (removed r.now d gone)
+  gone ← look_before of_directory d name
+  last ← last_shown r.now gone
+  inside cred d (removal of_directory name)
+  keep (removed r.now d (number_in gone) last)
   give Nothing
 
 -- the one flag is that nothing may be replaced
@@ -238,10 +224,11 @@ may_move name new_name flags = do
 -- what has the one name gets the other
 abbrev pub rename : Time → Credential → ℕ → List ℕ → ℕ → List ℕ → Work ReplyBody
 rename now cred d name new new_name = do
-  object ← number_named d name
-  replaced ← number_named new new_name
+  object ← look_before false d name
+  replaced ← look_before true new new_name
+  last ← last_shown now replaced
   obtain (CallAt (actor_at cred 0 d new) (RenameCall name new_name))
-  keep (moved now d new object replaced)
+  keep (moved now d new (number_in object) (number_in replaced) last)
   give Nothing
 
 abbrev pub move_name : Asked → List ℕ → ℕ → List ℕ → ℕ → Work ReplyBody

@@ -2,7 +2,8 @@
 --     failed        a refusal of the machine
 --     refusal_errno, is_for        the error of a refusal; whether one is for it
 --     error_number        the number on Linux
-use Rattle.std.specs.Prelude.{ℕ, ◌==◌, Bool, false}
+--     is_stale        what was asked for is gone
+use Rattle.std.specs.Prelude.{ℕ, ◌==◌, Bool, true, false}
 use Rattle.fs_cred.specs.declared.errno.Errno.{Errno}
 use Rattle.fs_cred.specs.declared.refusal.Refusal.{Refusal}
 use Rattle.fs_cred.specs.declared.refusal.Refusal.TheVariants.{Denied, Failed}
@@ -36,3 +37,7 @@ error_number (Lacks e) = other_number e
 abbrev pub is_for : Errno → RequestError → Bool
 is_for e (Refuses r) = errno_number (refusal_errno r) == errno_number e
 is_for e (Lacks _) = false
+
+abbrev pub is_stale : RequestError → Bool
+is_stale (Lacks ESTALE) = true
+is_stale _ = false

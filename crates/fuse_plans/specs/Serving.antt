@@ -5,7 +5,7 @@
 --     is_due, keep_due, keep_due_in        what was done is made to last, where that is due
 --     served_plan        of a request, behind what is due
 --     requests_plan        of several, one after another
-use Rattle.std.specs.Prelude.{ℕ, ◌+◌, ◌/◌, nat_lt, nat_le, min, ◌==◌, ◌&&◌, ◌||◌, Bool, true, false, not, List, [], ◌∷◌, Option, None, Some, Result, Ok, Err, if◌then◌else◌, bit_and}
+use Rattle.std.specs.Prelude.{ℕ, ◌+◌, ◌/◌, nat_lt, nat_le, min, ◌==◌, ◌&&◌, ◌||◌, Bool, true, false, not, List, [], ◌∷◌, map, Option, None, Some, Result, Ok, Err, if◌then◌else◌, bit_and}
 use Rattle.posix_acl.specs.AccessList.{AccessList}
 use Rattle.fs_cred.specs.declared.errno.Errno.TheVariants.{EINVAL, ENOMEM}
 use Rattle.fs_model.specs.declared.event.Event.TheVariants.{Statfs, Sync}
@@ -24,13 +24,13 @@ use Rattle.fuse_plans.specs.declared.reply.ReplyBody.{ReplyBody}
 use Rattle.fuse_plans.specs.declared.reply.ReplyBody.TheVariants.{Space, Agreed}
 use Rattle.fuse_plans.specs.declared.reply.Response.{Response}
 use Rattle.fuse_plans.specs.declared.reply.Response.TheVariants.{Silence, Says, Fails}
-use Rattle.fuse_state.specs.Servers.{Server, with_acls_offered, with_end, with_kept_at}
+use Rattle.fuse_state.specs.Servers.{Server, with_acls_offered, with_end, with_kept_at, without_nodes}
 use Rattle.fuse_state.specs.declared.settings.Settings.{Settings}
 use Rattle.fuse_plans.specs.Works.{Work, give, fail, kept, keep, ◌>>=◌, ◌>>◌, ask, obtain, replied_space}
 use Rattle.fuse_plans.specs.Alterations.{says_change}
 use Rattle.fuse_plans.specs.Nobody.{who_counts_in, is_nobody}
 use Rattle.fuse_plans.specs.Times.{tell_time}
-use Rattle.fuse_plans.specs.NamePlans.{find_name, make_link, make_file, make_directory, remove, removal, move_name, add_link}
+use Rattle.fuse_plans.specs.NamePlans.{find_name, make_link, make_file, make_directory, remove, move_name, add_link}
 use Rattle.fuse_plans.specs.FilePlans.{open_file, create_file, read_file, write_file, close_file}
 use Rattle.fuse_plans.specs.AttributePlans.{get_attributes, set_attributes, read_link, ask_access}
 use Rattle.fuse_plans.specs.DirectoryPlans.{open_directory, read_directory, close_directory, sync_all}
@@ -92,23 +92,23 @@ end = do
 
 -- ---- each operation
 
--- What an operation takes: work, whose result is replied; or nothing, and no reply: nodes need not be forgotten, since none is kept.
+-- What an operation takes: work, whose result is replied; or no reply, where the kernel forgets these nodes or none.
 pub data Task : Type 0 where
   Replying : Work ReplyBody → Task
-  Silent : Task
+  Silent : List ℕ → Task
 
 -- The value of an attribute is that of the request.
 abbrev pub plan_of : Asked → Option (Option AccessList) → Operation → Task
 plan_of r value (Lookup name) = Replying (find_name r name)
-plan_of r value (Forget count) = Silent
+plan_of r value (Forget count) = Silent (r.node ∷ [])
 plan_of r value GetAttr = Replying (get_attributes r)
 plan_of r value (SetAttr changes) = Replying (set_attributes r changes)
 plan_of r value ReadLink = Replying (read_link r)
 plan_of r value (SymLink name target) = Replying (make_link r name target)
 plan_of r value (MkNod name mode umask) = Replying (make_file r name mode umask)
 plan_of r value (MkDir name mode umask) = Replying (make_directory r name mode umask)
-plan_of r value (Unlink name) = Replying (remove r (removal false) name)
-plan_of r value (RmDir name) = Replying (remove r (removal true) name)
+plan_of r value (Unlink name) = Replying (remove r false name)
+plan_of r value (RmDir name) = Replying (remove r true name)
 plan_of r value (Rename name new_directory new_name flags) = Replying (move_name r name new_directory new_name flags)
 plan_of r value (Link node name) = Replying (add_link r node name)
 plan_of r value (Open flags) = Replying (open_file r flags.0)
@@ -129,9 +129,9 @@ plan_of r value (ReleaseDir handle) = Replying (close_directory handle)
 plan_of r value FSyncDir = Replying sync_all
 plan_of r value (Access mask) = Replying (ask_access r mask)
 plan_of r value (Create name flags mode umask) = Replying (create_file r name flags.0 mode umask)
-plan_of r value Interrupt = Silent
+plan_of r value Interrupt = Silent []
 plan_of r value Destroy = Replying end
-plan_of r value (BatchForget batch) = Silent
+plan_of r value (BatchForget batch) = Silent (map (λ e. e.0) batch)
 plan_of r value SyncFs = Replying sync_all
 plan_of r value Unknown = Replying (fail (Lacks ENOSYS))
 
@@ -139,7 +139,7 @@ plan_of r value Unknown = Replying (fail (Lacks ENOSYS))
 abbrev pub told_first : Bool → Time → Task → Task
 told_first false now task = task
 told_first true now (Replying w) = Replying (tell_time now >> w)
-told_first true now Silent = Silent
+told_first true now (Silent nodes) = Silent nodes
 
 -- of a request whose body may not be of its form
 abbrev pub asked_for : Asked → Option (Option AccessList) → Option Operation → Task
@@ -154,7 +154,8 @@ response_of (Err e) = Fails e
 
 -- Where memory is lacking for what is added, nothing is asked, and nothing changes.
 abbrev pub answered : Bool → Task → Server → Plan (Response × Server)
-answered memory Silent s = Finish (Silence, s)
+answered true (Silent nodes) s = Finish (Silence, without_nodes nodes s)
+answered false (Silent nodes) s = Finish (Silence, s)
 answered true (Replying w) s = followed_by (w s) (λ r. Finish (response_of r.0, r.1))
 answered false (Replying w) s = Finish (Fails (failed ENOMEM), s)
 

@@ -1,6 +1,6 @@
 //! Why requests fail.
 ghost use Rattle.std.specs.Prelude.{◌≡◌};
-ghost use Rattle.fuse_plans.specs.RequestErrors.{refusal_errno, other_number, error_number, is_for};
+ghost use Rattle.fuse_plans.specs.RequestErrors.{refusal_errno, other_number, error_number, is_for, is_stale};
 
 use fs_cred::{Errno, Refusal};
 
@@ -112,6 +112,13 @@ impl RequestError {
             RequestError::Refuses(refusal) => refusal_errno(refusal).number(),
             RequestError::Lacks(errno) => errno.number(),
         }
+    }
+
+    /// Whether what was asked for is gone.
+    pub fn is_stale(self) -> bool
+        ensures { result ≡ is_stale self }
+    {
+        matches!(self, RequestError::Lacks(OtherErrno::ESTALE))
     }
 
     /// Whether the machine refuses with this error.

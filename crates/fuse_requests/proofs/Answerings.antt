@@ -10,7 +10,8 @@ use Rattle.fs_model.specs.declared.event.Event.{Event}
 use Rattle.fs_model.specs.declared.reply.Reply.{Reply}
 use Rattle.fuse_plans.specs.declared.reply.ReplyBody.{ReplyBody}
 use Rattle.fuse_plans.specs.declared.reply.Response.{Response}
-use Rattle.fuse_plans.specs.declared.reply.Response.TheVariants.{Fails}
+use Rattle.fuse_plans.specs.declared.reply.Response.TheVariants.{Silence, Fails}
+use Rattle.fuse_state.specs.Servers.{Server, without_nodes}
 use Rattle.fuse_sessions.specs.declared.session.Session.{Session}
 use Rattle.fuse_plans.specs.declared.request_error.RequestError.{RequestError}
 use Rattle.fuse_plans.specs.Plans.{Finish, CarriesOut, finishes}
@@ -18,7 +19,7 @@ use Rattle.fuse_protocol.specs.declared.reply.Time.{Time}
 use Rattle.fuse_plans.specs.FilePlans.{when}
 use Rattle.fuse_plans.specs.Times.{tell_time}
 use Rattle.fuse_plans.specs.Works.{Work, give, fail, ◌>>=◌, ◌>>◌}
-use Rattle.fuse_plans.specs.Serving.{Task, Replying, told_first, answered, response_of}
+use Rattle.fuse_plans.specs.Serving.{Task, Replying, Silent, told_first, answered, response_of}
 use Rattle.fuse_sessions.specs.Performing.{Did}
 use Rattle.fuse_requests.specs.Performing.{Answered}
 use Rattle.fuse_steps.proofs.Steps.{carries-followed_by}
@@ -68,12 +69,20 @@ module _ {M : Type 0} {Serves : M → Event → Reply → M → Type 0} where
   pub refuses : {plan : Task} {s : Session M} (e : RequestError) → plan ≡ Replying (fail e) → Answered Serves plan s s (Fails e)
   refuses {plan} {s} e is = same-plan is (did-answers {r = Err e} (has-failed e s))
 
-  -- nothing is asked, and nothing changes
-  pub is-silent : {plan : Task} {s : Session M} {response : Response} → answered true plan s.server.server ≡ Finish (response, s.server.server)
-      → Answered Serves plan s s response
-  is-silent {plan} {s} {response} is = record {
-    performs = subst (λ p. CarriesOut Serves p s.machine s.machine (response, s.server.server)) (sym is) (finishes (response, s.server.server) s.machine);
-  }
+  -- nothing is asked, and nodes are forgotten
+  forgets : {nodes : List ℕ} {old new : Session M} → new.machine ≡ old.machine → new.server.server ≡ without_nodes nodes old.server.server
+      → Answered Serves (Silent nodes) old new Silence
+  forgets {nodes} {old} {new} same left =
+      let done : Response × Server = (Silence, without_nodes nodes old.server.server) in
+      record {
+        performs = subst (λ (m : M). CarriesOut {X = Response × Server} Serves (Finish done) old.machine m (Silence, new.server.server)) (sym same)
+            (subst (λ (s : Server). CarriesOut {X = Response × Server} Serves (Finish done) old.machine old.machine (Silence, s)) (sym left)
+            (finishes done old.machine));
+      }
+
+  pub is-silent : {plan : Task} {nodes : List ℕ} {old new : Session M} → plan ≡ Silent nodes → new.machine ≡ old.machine
+      → new.server.server ≡ without_nodes nodes old.server.server → Answered Serves plan old new Silence
+  is-silent is same left = same-plan is (forgets same left)
 
   pub with-name : {X : Type 0} (f : List ℕ → Work X) {given copied : List ℕ} {old new : Session M} {r : Result X RequestError} → copied ≡ given
       → Did Serves (f copied) old new r → Did Serves (f given) old new r

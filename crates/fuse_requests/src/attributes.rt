@@ -1,14 +1,14 @@
 //! Requests for attributes: what stat(2) shows, and what changes it.
 ghost use Rattle.std.specs.Prelude.{◌≡◌, ◌+◌, ◌≤◌};
-ghost use Rattle.fuse_plans.specs.AttributePlans.{tell_attributes, get_attributes, resize_object, set_size, set_owners, set_mode, may_set_times, set_times, change_attributes, tell_times, set_attributes, tell_target, read_link, ask_access, timed, set_stamps};
+ghost use Rattle.fuse_plans.specs.AttributePlans.{tell_attributes, tell_object, removed_body, get_attributes, resize_object, set_size, set_owners, set_mode, may_set_times, set_times, change_attributes, tell_times, set_attributes, tell_target, read_link, ask_access, timed, set_stamps};
 ghost use Rattle.fuse_plans.specs.Callers.{actor_in, on};
 ghost use Rattle.fuse_sessions.specs.Performing.{Did};
 
 use fs_model::{Actor, Bytes, Call, HandleCall, Reply, Status};
-use fuse_plans::{Asked, Replied, ReplyBody, RequestError, Tried};
+use fuse_plans::{Asked, Attributes, Replied, ReplyBody, RequestError, Tried};
 use fuse_protocol::{AttrChanges, Time};
 use fuse_sessions::Session;
-use fuse_state::{Server, Times, stamp_of};
+use fuse_state::{RemovedDirectory, Server, Times, stamp_of};
 use fuse_steps::Machine;
 use fuse_steps::asker::{actor_in, obtain_by_once, on, who_asks};
 use fuse_steps::changes::{
@@ -27,13 +27,37 @@ fn tell_attributes<M: Machine>(session: &mut Session<M>, status: Status) -> Repl
     Ok(ReplyBody::Shown(attributes(&session.server, status, stamps)))
 }
 
-/// What is told of an object.
+// What is told of an object that is there.
+fn tell_object<M: Machine>(session: &mut Session<M>, node: u64) -> Replied
+    ensures { Did M.Serves (tell_object node) session.old session.new result }
+{
+    let ino = session.the_number(node)?;
+    let status = session.look(ino)?;
+    tell_attributes(session, status)
+}
+
+// What is told of a directory that was removed.
+fn removed_body(server: &Server, removed: RemovedDirectory) -> ReplyBody
+    ensures { result ≡ removed_body removed server.now.server }
+{
+    ReplyBody::Shown(Attributes {
+        status: removed.status,
+        times: removed.times,
+        valid: server.settings().keeping.attributes,
+    })
+}
+
+/// What is told of an object. What is gone may be a directory that was removed.
 pub(crate) fn get_attributes<M: Machine>(session: &mut Session<M>, asked: &Asked) -> Replied
     ensures { Did M.Serves (get_attributes asked.entry.now) session.old session.new result }
 {
-    let ino = session.the_number(asked.node)?;
-    let status = session.look(ino)?;
-    tell_attributes(session, status)
+    match tell_object(session, asked.node) {
+        Ok(body) => Ok(body),
+        Err(error) => {
+            let removed = session.removed_instead(asked.node, error)?;
+            Ok(removed_body(&session.server, removed))
+        }
+    }
 }
 
 // By the handle, where there is one.

@@ -1,6 +1,6 @@
 //! Requests for directories. An open one holds no handle of the machine.
 ghost use Rattle.std.specs.Prelude.{◌≡◌, ◌+◌, ◌≤◌, [], vec_capacity, Err, IsSome, OnOk, IfErr};
-ghost use Rattle.fuse_plans.specs.DirectoryPlans.{open_directory, directory_flags, opened_directory_body, take_directory, list_opened, list_all, list_now, list_kept, read_directory, close_directory};
+ghost use Rattle.fuse_plans.specs.DirectoryPlans.{ask_reading, open_directory, directory_flags, opened_directory_body, take_directory, list_opened, list_all, list_now, list_kept, read_directory, close_directory};
 ghost use Rattle.fuse_plans.specs.Works.{of_result};
 ghost use Rattle.fuse_state.specs.Servers.{directory_of};
 ghost use Rattle.fuse_requests.specs.Listings.{Listed};
@@ -8,6 +8,7 @@ ghost use Rattle.fuse_sessions.specs.Performing.{Did};
 
 use crate::attributes::on_once;
 use bitflags::Flags as _;
+use fs_cred::Cred;
 use fs_model::{Call, Listing, Reply};
 use fuse_plans::{Asked, OtherErrno, Replied, ReplyBody, RequestError, Tried};
 use fuse_protocol::{Extent, OpenedFlags};
@@ -43,17 +44,25 @@ fn opened_body(server: &Server, handle: u64) -> ReplyBody
     ReplyBody::Opened(handle, directory_flags(server.settings()))
 }
 
+// Whether somebody may read a directory.
+fn ask_reading<M: Machine>(session: &mut Session<M>, cred: Cred, node: u64) -> Tried<Reply>
+    ensures did { Did M.Serves (ask_reading cred node) session.old session.new result }
+    ensures kept { session.new.server ≡ session.old.server }
+{
+    let ino = session.the_number(node)?;
+    let actor = actor_in(cred, ino);
+    let call = Call::Access(session.empty_path(), Perms::from_digit(4));
+    on_once(session, &actor, call)
+}
+
 /// Opens a directory, for reading by who asks; of one that was removed nothing is asked.
 pub(crate) fn open_directory<M: Machine>(session: &mut Session<M>, asked: Asked) -> Replied
     requires room { 1 ≤ session.old.server.room }
     ensures { Did M.Serves (open_directory asked) session.old session.new result }
 {
-    let ino = session.the_number(asked.node)?;
     let cred = who_asks(asked.cred)?;
     let owner = cred.uid();
-    let actor = actor_in(cred, ino);
-    let call = Call::Access(session.empty_path(), Perms::from_digit(4));
-    or_removed(on_once(session, &actor, call))?;
+    or_removed(ask_reading(session, cred, asked.node))?;
     take_directory(session, owner, asked.node)
 }
 

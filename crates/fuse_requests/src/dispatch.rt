@@ -1,12 +1,12 @@
 //! One request, whatever it asks for.
-ghost use Rattle.std.specs.Prelude.{◌≡◌, ◌≤◌, true, Option, Some, IfOk, OnErr};
+ghost use Rattle.std.specs.Prelude.{◌≡◌, ◌≤◌, true, map, List, Option, Some, IfOk, OnErr};
 ghost use Rattle.posix_acl.specs.AccessList.{AccessList};
 ghost use Rattle.fuse_plans.specs.FilePlans.{write_file};
 ghost use Rattle.fuse_plans.specs.ListingPlans.{read_directory_plus};
 ghost use Rattle.fuse_requests.specs.Families.{family_of};
 ghost use Rattle.fuse_requests.specs.Performing.{Answered};
-ghost use Rattle.fuse_plans.specs.Plans.{CarriesOut, Finish};
-ghost use Rattle.fuse_state.specs.Servers.{Server as ServerOf};
+ghost use Rattle.fuse_plans.specs.Plans.{CarriesOut};
+ghost use Rattle.fuse_state.specs.Servers.{without_nodes};
 ghost use Rattle.fuse_plans.specs.Serving.{Replying, answered, told_first, asked_for, response_of};
 ghost use Rattle.fuse_requests.specs.declared.family.Family.TheVariants as families;
 ghost use Rattle.fuse_plans.specs.declared.request.Asked.{Asked as AskedBy};
@@ -23,9 +23,10 @@ use crate::whole::{count_space, end, sync_all};
 use crate::xattrs::{get_xattr, list_xattrs, remove_xattr, set_xattr};
 use fs_model::Path;
 use fuse_plans::{Asked, Replied, RequestError, Response};
-use fuse_protocol::{Extent, Operation, Piece};
+use fuse_protocol::{Batch, Extent, Operation, Piece};
 use fuse_sessions::Session;
 use fuse_sessions::listing::{LEAST_RECORD, bounded};
+use fuse_state::Server;
 use fuse_steps::Machine;
 use fuse_steps::acls::AclNames;
 use fuse_steps::flags::is_trunc;
@@ -82,20 +83,43 @@ fn perform_prepared<M: Machine>(
         Family::OnAcl => perform_on_acl(session, asked, value, operation),
         Family::ByHandle => perform_by_handle(session, &asked, operation),
         Family::OnWhole => perform_on_whole(session, operation),
-        Family::Silent => Ok(perform_silently(operation)),
+        Family::Silent => Ok(perform_silently(session, asked.node, operation)),
     }
 }
 
 // Requests without a reply.
-fn perform_silently(operation: &Operation<'_>) -> Response
+fn perform_silently<M: Machine>(
+    session: &mut Session<M>,
+    node: u64,
+    operation: &Operation<'_>,
+) -> Response
     requires { family_of operation.now ≡ families.Silent }
-    ensures { (asked : AskedBy) (value : Option (Option AccessList)) (s : ServerOf)
-        → answered true (asked_for asked value (Some operation.now)) s ≡ Finish (result, s) }
+    ensures { (asked : AskedBy) (value : Option (Option AccessList)) → asked.node ≡ node
+        → Answered M.Serves (asked_for asked value (Some operation.now)) session.old session.new result }
 {
     match operation {
-        Operation::Forget(_) | Operation::Interrupt | Operation::BatchForget(_) =>
-            Response::Silence,
+        Operation::Forget(_) => {
+            session.server.forget(node);
+            Response::Silence
+        }
+        Operation::BatchForget(batch) => {
+            forget_all(&mut session.server, batch);
+            Response::Silence
+        }
+        Operation::Interrupt => Response::Silence,
         _ => unreachable!(),
+    }
+}
+
+// The kernel forgets these nodes.
+fn forget_all(server: &mut Server, batch: &Batch<'_>)
+    ensures kept { server.new.server ≡ without_nodes (map (λ e. e.0) batch.now) server.old.server }
+    ensures room { server.new.room ≡ server.old.room }
+{
+    for at in 0..batch.len() {
+        if let Some((node, _)) = batch.get(at) {
+            server.forget(node);
+        }
     }
 }
 

@@ -1,11 +1,12 @@
 //! Requests for names that are made, that go, and for further ones: each is performed as who asks.
 ghost use Rattle.std.specs.Prelude.{◌≡◌, ◌≤◌};
 ghost use Rattle.fuse_plans.specs.NamePlans.{directory_for, tell_made, make_by, make_closed, make_link, make_directory, make_file, new_valid, remove, removal, may_move, rename, move_name, link_as, add_link};
+ghost use Rattle.fuse_plans.specs.RemovedPlans.{number_in};
 ghost use Rattle.fuse_plans.specs.Works.{of_result};
 ghost use Rattle.fuse_sessions.specs.Performing.{Did};
 
 use fs_cred::Cred;
-use fs_model::{Call, Path};
+use fs_model::{Call, Path, Status};
 use fuse_plans::{Asked, Replied, ReplyBody, RequestError, Tried};
 use fuse_protocol::Time;
 use fuse_sessions::Session;
@@ -143,6 +144,14 @@ fn removal(of_directory: bool, name: Path) -> Call
     }
 }
 
+// The inode of what was shown, if something was.
+fn number_in(seen: Option<Status>) -> Option<u32>
+    ensures { result ≡ number_in seen }
+{
+    let status = seen?;
+    Some(status.ino)
+}
+
 /// Removes a name: of a directory, or of something else.
 pub(crate) fn remove<M: Machine>(
     session: &mut Session<M>,
@@ -150,18 +159,21 @@ pub(crate) fn remove<M: Machine>(
     name: Path,
     of_directory: bool,
 ) -> Replied
-    requires room { 2 ≤ session.old.server.room }
-    ensures { Did M.Serves (remove asked (removal of_directory) name) session.old session.new result }
+    requires room { 3 ≤ session.old.server.room }
+    ensures { Did M.Serves (remove asked of_directory name) session.old session.new result }
 {
     let dir_ino = directory_for(session, asked.node, &name)?;
     let cred = who_asks(asked.cred)?;
-    let (gone, name) = session.number_named(dir_ino, name);
+    let (gone, name) = session.look_before(of_directory, dir_ino, name);
+    let last = session.last_shown(asked.now, gone)?;
     let call = removal(of_directory, name);
     let actor = actor_in(cred, dir_ino);
     let reply = inside(&mut session.machine, &actor, &call);
     call.discard();
     reply?.discard();
-    session.server.note_removed(asked.now, dir_ino, gone);
+    session
+        .server
+        .note_removed(asked.now, dir_ino, number_in(gone), last);
     Ok(ReplyBody::Nothing)
 }
 
@@ -190,7 +202,7 @@ pub(crate) fn move_name<M: Machine>(
     new_name: Path,
     flags: u32,
 ) -> Replied
-    requires room { 4 ≤ session.old.server.room }
+    requires room { 5 ≤ session.old.server.room }
     ensures { Did M.Serves (move_name asked name new_node new_name flags) session.old session.new result }
 {
     may_move(&name, &new_name, flags)?;
@@ -216,11 +228,12 @@ fn rename<M: Machine>(
     old: Place,
     new: Place,
 ) -> Replied
-    requires { 4 ≤ session.old.server.room }
+    requires { 5 ≤ session.old.server.room }
     ensures { Did M.Serves (rename now cred old.dir_ino old.name new.dir_ino new.name) session.old session.new result }
 {
-    let (object, name) = session.number_named(old.dir_ino, old.name);
-    let (replaced, new_name) = session.number_named(new.dir_ino, new.name);
+    let (object, name) = session.look_before(false, old.dir_ino, old.name);
+    let (replaced, new_name) = session.look_before(true, new.dir_ino, new.name);
+    let last = session.last_shown(now, replaced)?;
     let call = Call::Rename {
         old: name,
         new: new_name,
@@ -229,9 +242,14 @@ fn rename<M: Machine>(
     let reply = obtain_at(&mut session.machine, &actor, &call);
     call.discard();
     reply?.discard();
-    session
-        .server
-        .note_moved(now, old.dir_ino, new.dir_ino, object, replaced);
+    session.server.note_moved(
+        now,
+        old.dir_ino,
+        new.dir_ino,
+        number_in(object),
+        number_in(replaced),
+        last,
+    );
     Ok(ReplyBody::Nothing)
 }
 

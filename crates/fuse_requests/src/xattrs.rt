@@ -1,7 +1,7 @@
 //! Requests for the two ACLs of acl(5), which are attributes to the kernel.
 ghost use Rattle.std.specs.Prelude.{◌≡◌, ◌≤◌, ℕ, Err};
 ghost use Rattle.posix_acl.specs.AccessList.{minimal};
-ghost use Rattle.fuse_plans.specs.AclPlans.{attribute_names, names_if, list_xattrs, tell_acl, get_xattr, acl_set, set_acl, set_xattr, remove_xattr};
+ghost use Rattle.fuse_plans.specs.AclPlans.{acl_of_node, acl_at, attribute_names, names_if, list_xattrs, tell_acl, get_xattr, acl_set, set_acl, set_xattr, remove_xattr};
 ghost use Rattle.fuse_plans.specs.Works.{of_result};
 ghost use Rattle.fuse_sessions.specs.Performing.{Did};
 
@@ -15,6 +15,32 @@ use fuse_steps::asker::{actor_in, who_asks};
 use fuse_steps::changes::or_not_for_files;
 use posix_acl::Acl;
 
+// An ACL of what is there.
+fn acl_of_node<M: Machine>(
+    session: &mut Session<M>,
+    node: u64,
+    which: AclType,
+) -> Tried<Option<Acl>>
+    ensures did { Did M.Serves (acl_of_node node which) session.old session.new result }
+    ensures kept { session.new.server ≡ session.old.server }
+{
+    let ino = session.the_number(node)?;
+    session.acl_of(ino, which)
+}
+
+// An ACL of what a node names. A directory that was removed has none.
+fn acl_at<M: Machine>(session: &mut Session<M>, node: u64, which: AclType) -> Tried<Option<Acl>>
+    ensures { Did M.Serves (acl_at node which) session.old session.new result }
+{
+    match acl_of_node(session, node, which) {
+        Ok(found) => Ok(found),
+        Err(error) => {
+            let _removed = session.removed_instead(node, error)?;
+            Ok(None)
+        }
+    }
+}
+
 /// An ACL, or how many bytes it has.
 pub(crate) fn get_xattr<M: Machine>(
     session: &mut Session<M>,
@@ -25,15 +51,14 @@ pub(crate) fn get_xattr<M: Machine>(
     ensures { Did M.Serves (get_xattr asked.entry.now name.now size) session.old session.new result }
 {
     let which = the_acl(name)?;
-    let ino = session.the_number(asked.node)?;
-    tell_acl(session, ino, which, size)
+    let found = acl_at(session, asked.node, which)?;
+    tell_acl(size, found)
 }
 
 // An ACL that is there, or how many bytes it has.
-fn tell_acl<M: Machine>(session: &mut Session<M>, ino: u32, which: AclType, size: u32) -> Replied
-    ensures { Did M.Serves (tell_acl ino which size) session.old session.new result }
+fn tell_acl(size: u32, found: Option<Acl>) -> Replied
+    ensures { tell_acl size found ≡ of_result result }
 {
-    let found = session.acl_of(ino, which)?;
     let Some(acl) = found else {
         return Err(RequestError::ENODATA);
     };
@@ -42,12 +67,12 @@ fn tell_acl<M: Machine>(session: &mut Session<M>, ino: u32, which: AclType, size
 }
 
 // The names of an object's ACLs.
-fn attribute_names<M: Machine>(session: &mut Session<M>, ino: u32, names: AclNames) -> Tried<Bytes>
-    ensures { Did M.Serves (attribute_names ino) session.old session.new result }
+fn attribute_names<M: Machine>(session: &mut Session<M>, node: u64, names: AclNames) -> Tried<Bytes>
+    ensures { Did M.Serves (attribute_names node) session.old session.new result }
 {
-    match session.acl_of(ino, AclType::Access) {
+    match acl_at(session, node, AclType::Access) {
         Ok(access) => {
-            let default = session.acl_of(ino, AclType::Default)?;
+            let default = acl_at(session, node, AclType::Default)?;
             Ok(names.told(access.is_some(), default.is_some()))
         }
         Err(error) => no_names_of_link(names, error),
@@ -56,7 +81,7 @@ fn attribute_names<M: Machine>(session: &mut Session<M>, ino: u32, names: AclNam
 
 // A link has no ACLs.
 fn no_names_of_link(names: AclNames, error: RequestError) -> Tried<Bytes>
-    ensures { (ino : ℕ) → names_if ino (Err error) ≡ of_result result }
+    ensures { (node : ℕ) → names_if node (Err error) ≡ of_result result }
 {
     match error {
         RequestError::Lacks(OtherErrno::EOPNOTSUPP) => Ok(names.told(false, false)),
@@ -73,8 +98,7 @@ pub(crate) fn list_xattrs<M: Machine>(
 ) -> Replied
     ensures { Did M.Serves (list_xattrs asked.entry.now size) session.old session.new result }
 {
-    let ino = session.the_number(asked.node)?;
-    let names = attribute_names(session, ino, names)?;
+    let names = attribute_names(session, asked.node, names)?;
     let count = names.bytes().len();
     sized(size, count, ReplyBody::Bytes(names))
 }

@@ -11,6 +11,7 @@ mod names;
 mod nobody;
 mod object;
 mod own;
+mod removed;
 mod session;
 mod times;
 

@@ -1,8 +1,8 @@
 //! Calls on objects, and what the server sees of them.
-ghost use Rattle.std.specs.Prelude.{◌≡◌, [], Ok};
+ghost use Rattle.std.specs.Prelude.{◌≡◌, ◌||◌, not, [], Ok};
 ghost use Rattle.fuse_plans.specs.Callers.{look, look_inside, on, server_credential, the_number};
 ghost use Rattle.fuse_plans.specs.Masks.{acl_of, asks_list, list_hides, list_of};
-ghost use Rattle.fuse_plans.specs.NamePlans.{number_named};
+ghost use Rattle.fuse_plans.specs.RemovedPlans.{look_before};
 ghost use Rattle.fuse_sessions.specs.Performing.{Did};
 
 use crate::session::Session;
@@ -12,8 +12,15 @@ use fuse_steps::Machine;
 use fuse_steps::acls::{hides, may_hide, told_acl};
 use fuse_steps::asker::on;
 use fuse_steps::replies::acl_of_reply;
-use fuse_steps::seen::{look_inside, number_shown, shown};
+use fuse_steps::seen::{look_inside, shown, status_seen};
 use posix_acl::Acl;
+
+// Whether it counts what has a name that is to go: a directory may, or the server keeps times.
+fn has_to_look(of_directory: bool, keeps_times: bool) -> bool
+    ensures { result ≡ of_directory || not keeps_times }
+{
+    of_directory || !keeps_times
+}
 
 impl<M: Machine> Session<M> {
     /// The path of a call on an object.
@@ -78,17 +85,22 @@ impl<M: Machine> Session<M> {
         look_inside(&mut self.machine, self.own.actor(), name)
     }
 
-    /// The inode that a name leads to, where the server keeps times and has to know it. The name comes back.
-    pub fn number_named(&mut self, dir_ino: u32, name: Path) -> (Option<u32>, Path)
-        ensures did { Did M.Serves (number_named dir_ino name) self.old self.new (Ok result.0) }
+    /// What stat(2) shows the server of a name that is to go, where it has to know that. The name comes back.
+    pub fn look_before(
+        &mut self,
+        of_directory: bool,
+        dir_ino: u32,
+        name: Path,
+    ) -> (Option<Status>, Path)
+        ensures did { Did M.Serves (look_before of_directory dir_ino name) self.old self.new (Ok result.0) }
         ensures name { result.1 ≡ name }
         ensures kept { self.new.server ≡ self.old.server }
     {
-        if self.server.settings().keeps_times {
-            return (None, name);
+        if has_to_look(of_directory, self.server.settings().keeps_times) {
+            let (seen, name) = self.look_inside_own(dir_ino, name);
+            return (status_seen(seen), name);
         }
-        let (seen, name) = self.look_inside_own(dir_ino, name);
-        (number_shown(seen), name)
+        (None, name)
     }
 
     /// Whether Linux doesn't follow the access list of a directory.

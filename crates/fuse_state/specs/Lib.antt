@@ -1,6 +1,7 @@
 pub mod Keepings
 pub mod Shares
 pub mod Stamps
+pub mod Removed
 pub mod Servers
 pub mod Changes
 pub mod Tables

@@ -10,9 +10,10 @@ pub record Kept : Type 0 where
   pub room : ℕ
 
 -- each table has the room, and the handles of so many directories are numbers of 64 bits
-pub record HasTableRoom (room generations times directories listings next_directory : ℕ) : Type 0 where
+pub record HasTableRoom (room generations times directories listings removed_directories next_directory : ℕ) : Type 0 where
   pub for_generations : room ≤ generations
   pub for_times : room ≤ times
   pub for_directories : room ≤ directories
   pub for_listings : room ≤ listings
+  pub for_removed_directories : room ≤ removed_directories
   pub for_numbers : next_directory + room < 2 ^ 64

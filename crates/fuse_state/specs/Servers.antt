@@ -6,14 +6,16 @@
 --     directory_holders, may_open_directory        who has opened directories, and whether a user may open one more
 --     with_opened, with_listing, without_directory        open directories, and one listing of each
 --     WithinShares        none has opened more than it may
+--     removed_directory_of, with_removed_directory, without_nodes        what is shown of directories that were removed, until the kernel forgets them
 --     with_acls_offered, with_end, with_kept_at        what is agreed on, the end, and when all was last made to last
-use Rattle.std.specs.Prelude.{◌≡◌, ℕ, ◌+◌, ◌*◌, ◌/◌, ◌%◌, ◌^◌, ◌==◌, ◌≤◌, Bool, true, false, ◌&&◌, List, [], map, Option, None, Some, unwrap_or, option_and_then, slice_get, if◌then◌else◌}
+use Rattle.std.specs.Prelude.{◌≡◌, ℕ, ◌+◌, ◌*◌, ◌/◌, ◌%◌, ◌^◌, ◌==◌, ◌≤◌, Bool, true, false, ◌&&◌, List, [], ◌∷◌, map, Option, None, Some, unwrap_or, option_and_then, slice_get, if◌then◌else◌}
 use Rattle.std.specs.Ordering.{nat_cmp}
 use Rattle.std.specs.List.{list_any}
 use Rattle.fs_layout.specs.Maps.{get, with_entry, without, IsMap}
 use Rattle.fuse_protocol.specs.declared.reply.Time.{Time}
 use Rattle.fuse_state.specs.Shares.{directory_shares, may_hold, KeepsShares}
 use Rattle.fuse_state.specs.declared.directory.OpenDirectory.{OpenDirectory}
+use Rattle.fuse_state.specs.declared.removed.RemovedDirectory.{RemovedDirectory}
 use Rattle.fuse_state.specs.declared.settings.Settings.{Settings}
 use Rattle.fuse_state.specs.declared.times.Times.{Times}
 
@@ -27,13 +29,24 @@ pub record Server : Type 0 where
   -- of the directories that are open, by their nodes, the listings that were made last
   pub listings : List (ℕ × List (List ℕ × ℕ))
   pub next_directory : ℕ
+  -- of directories that were removed, by their nodes, what is shown
+  pub removed_directories : List (ℕ × RemovedDirectory)
   pub ended : Bool
   -- when the server itself last made all last
   pub kept_at : Time
 
 abbrev pub new_server : Settings → Server
-new_server settings =
-    record { settings = settings; generations = []; times = []; directories = []; listings = []; next_directory = 0; ended = false; kept_at = settings.start }
+new_server settings = record {
+  settings = settings;
+  generations = [];
+  times = [];
+  directories = [];
+  listings = [];
+  next_directory = 0;
+  removed_directories = [];
+  ended = false;
+  kept_at = settings.start;
+}
 
 -- ---- nodes
 
@@ -143,6 +156,24 @@ pub record WithinShares (s : Server) : Type 0 where
   pub behind : (handle : ℕ) → s.next_directory ≤ handle → directory_of s handle ≡ None
   pub keeps : KeepsShares directory_shares (directory_holders s)
   pub listings : (node : ℕ) → is_directory_open s.directories node ≡ false → get nat_cmp s.listings node ≡ None
+
+-- ---- removed directories
+
+abbrev pub removed_directory_of : Server → ℕ → Option RemovedDirectory
+removed_directory_of s node = get nat_cmp s.removed_directories node
+
+-- one was removed, if any was: nobody has its number yet
+abbrev pub with_removed_directory : Option RemovedDirectory → Server → Server
+with_removed_directory None s = s
+with_removed_directory (Some d) s = record s { removed_directories = with_entry nat_cmp s.removed_directories (node_of s d.status.ino) d }
+
+abbrev pub without_keys : {X : Type 0} → List ℕ → List (ℕ × X) → List (ℕ × X)
+without_keys [] entries = entries
+without_keys (key ∷ keys) entries = without_keys keys (without nat_cmp entries key)
+
+-- the kernel forgets nodes, and so has none of them open
+abbrev pub without_nodes : List ℕ → Server → Server
+without_nodes nodes s = record s { removed_directories = without_keys nodes s.removed_directories }
 
 -- ---- the beginning and the end
 

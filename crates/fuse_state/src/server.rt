@@ -5,10 +5,12 @@ ghost use Rattle.fuse_state.specs.Servers.{new_server, with_acls_offered, with_e
 mod changes;
 mod directories;
 mod nodes;
+mod removed;
 mod times;
 
 use crate::directory::OpenDirectory;
 use crate::hash_table::HashTable;
+use crate::removed::RemovedDirectory;
 use crate::settings::Settings;
 use crate::table::Table;
 use crate::times::Times;
@@ -29,6 +31,7 @@ pub struct Server {
     directories: Table<OpenDirectory>,
     listings: HashTable<Listing>,
     next_directory: u64,
+    removed_directories: HashTable<RemovedDirectory>,
     ended: bool,
     kept_at: Time,
     room: usize,
@@ -47,13 +50,15 @@ impl Model for Server {
         directories = s.directories.0;
         listings = s.listings.0;
         next_directory = s.next_directory;
+        removed_directories = s.removed_directories.0;
         ended = s.ended;
         kept_at = s.kept_at;
       };
       room = s.room;
     } };
 
-    ghost invariant = { λ s. HasTableRoom s.room s.generations.1 s.times.1 s.directories.1 s.listings.1 s.next_directory };
+    ghost invariant = { λ s.
+        HasTableRoom s.room s.generations.1 s.times.1 s.directories.1 s.listings.1 s.removed_directories.1 s.next_directory };
 }
 
 impl Server {
@@ -68,6 +73,7 @@ impl Server {
             directories: Table::new(alloc),
             listings: HashTable::new(alloc),
             next_directory: 0,
+            removed_directories: HashTable::new(alloc),
             ended: false,
             kept_at: settings.start,
             room: 0,
@@ -84,6 +90,7 @@ impl Server {
         self.times.reserve(REQUEST_ROOM)?;
         self.directories.reserve(REQUEST_ROOM)?;
         self.listings.reserve(REQUEST_ROOM)?;
+        self.removed_directories.reserve(REQUEST_ROOM)?;
         if self.next_directory >= u64::MAX - REQUEST_ROOM as u64 {
             return Err(AllocError);
         }

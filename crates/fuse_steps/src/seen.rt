@@ -2,7 +2,7 @@
 ghost use Rattle.std.specs.Prelude.{◌≡◌, ℕ, List, Some, Err, MatchResult};
 ghost use Rattle.fs_model.specs.declared.call.Call.TheVariants.{Lstat};
 ghost use Rattle.fuse_plans.specs.Callers.{actor_in, look_inside};
-ghost use Rattle.fuse_plans.specs.NamePlans.{number_shown};
+ghost use Rattle.fuse_plans.specs.RemovedPlans.{status_seen};
 ghost use Rattle.fuse_plans.specs.Works.{of_result, replied_status, replied_opened, replied_number};
 ghost use Rattle.fuse_steps.specs.Performing.{DidByMachine};
 
@@ -80,12 +80,9 @@ pub fn look_inside<M: Machine>(machine: &mut M, actor: &Actor, name: Path) -> (T
     (seen, name)
 }
 
-/// The inode of what was shown, if something was.
-pub fn number_shown(seen: Tried<Status>) -> Option<u32>
-    ensures { result ≡ number_shown seen }
+/// What was shown, if something was.
+pub fn status_seen(seen: Tried<Status>) -> Option<Status>
+    ensures { result ≡ status_seen seen }
 {
-    match seen {
-        Ok(status) => Some(status.ino),
-        Err(_unseen) => None,
-    }
+    seen.ok()
 }

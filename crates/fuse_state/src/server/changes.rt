@@ -3,6 +3,7 @@ ghost use Rattle.std.specs.Prelude.{◌≡◌, ◌+◌, ◌≤◌};
 ghost use Rattle.fuse_state.specs.Changes.{with_new_object, changed_if, removed, moved, linked, opened_or_made};
 
 use super::Server;
+use crate::removed::RemovedDirectory;
 use crate::times::Times;
 use fuse_protocol::Time;
 
@@ -36,18 +37,25 @@ impl Server {
         self.touch(now, dir_ino);
     }
 
-    /// A name of a directory was removed: that of this object, if there was one.
-    pub fn note_removed(&mut self, now: Time, dir_ino: u32, gone: Option<u32>)
-        requires { 2 ≤ self.old.room }
-        ensures kept { self.new.server ≡ removed now dir_ino gone self.old.server }
-        ensures room { self.old.room ≤ self.new.room + 2 }
+    /// A name of a directory was removed: that of this object, if there was one. What was a directory may be open still.
+    pub fn note_removed(
+        &mut self,
+        now: Time,
+        dir_ino: u32,
+        gone: Option<u32>,
+        last: Option<RemovedDirectory>,
+    )
+        requires { 3 ≤ self.old.room }
+        ensures kept { self.new.server ≡ removed now dir_ino gone last self.old.server }
+        ensures room { self.old.room ≤ self.new.room + 3 }
     {
         self.change_if(now, gone);
         self.touch(now, dir_ino);
+        self.note_removed_directory(last);
     }
 
     /// A name was moved from one directory to another, or within one. It was that of this object, and replaced that of another, where
-    /// there are such.
+    /// there are such. What was replaced and was a directory may be open still.
     pub fn note_moved(
         &mut self,
         now: Time,
@@ -55,15 +63,17 @@ impl Server {
         new_dir_ino: u32,
         object: Option<u32>,
         replaced: Option<u32>,
+        last: Option<RemovedDirectory>,
     )
-        requires { 4 ≤ self.old.room }
-        ensures kept { self.new.server ≡ moved now old_dir_ino new_dir_ino object replaced self.old.server }
-        ensures room { self.old.room ≤ self.new.room + 4 }
+        requires { 5 ≤ self.old.room }
+        ensures kept { self.new.server ≡ moved now old_dir_ino new_dir_ino object replaced last self.old.server }
+        ensures room { self.old.room ≤ self.new.room + 5 }
     {
         self.change_if(now, replaced);
         self.change_if(now, object);
         self.touch(now, old_dir_ino);
         self.touch(now, new_dir_ino);
+        self.note_removed_directory(last);
     }
 
     /// An object got one more name, in this directory.

@@ -2,8 +2,9 @@
 ghost use Rattle.std.specs.Prelude.{◌≤◌};
 
 use crate::tests::sessions::settings;
+use fs_model::{FileType, Status};
 use fuse_protocol::Time;
-use fuse_state::{Server, Times};
+use fuse_state::{RemovedDirectory, Server, Times};
 use std::alloc::{AllocError, Global};
 use std::mem;
 use std::test::Fail;
@@ -15,6 +16,10 @@ enum Step {
     Made(u64, u32, u32),
     // A directory loses the name of an object, if it was that of one.
     Removed(u64, u32, Option<u32>),
+    // A directory loses the name of a directory that was shown, without links and with the start's times.
+    RemovedDirectory(u64, u32, u32),
+    // The kernel forgets a node.
+    Forgotten(u64),
     // A name goes from one directory to another: that of an object, and in place of that of another.
     Moved(u64, u32, u32, Option<u32>, Option<u32>),
     // A directory has one more name of an object.
@@ -30,6 +35,9 @@ enum Step {
     Number(u64),
     Mtime(u32),
     Ctime(u32),
+    // Of a directory that was removed, by its node: the number and the change time.
+    RemovedNumber(u64),
+    RemovedCtime(u64),
     KeptAt,
     IsEnded,
 }
@@ -49,15 +57,40 @@ fn set_modified(server: &mut Server, seconds: u64, ino: u32)
     server.set_times(ino, Times { mtime, ..times });
 }
 
+// What is shown of an empty directory.
+fn empty(ino: u32) -> Status {
+    Status {
+        ino,
+        kind: FileType::Directory,
+        mode: 0o755,
+        links: 1,
+        owner: 0,
+        group: 0,
+        size: 0,
+    }
+}
+
+// What is shown of a directory that was removed: it has no links.
+fn removed(server: &Server, node: u64) -> Option<RemovedDirectory> {
+    server
+        .removed_directory_of(node)
+        .filter(|directory| directory.status.links == 0)
+}
+
 // What happens, if something does.
 fn happens(server: &mut Server, step: Step)
     requires { 5 ≤ server.old.room }
 {
     match step {
         Step::Made(now, dir, ino) => server.note_made(at(now), dir, ino),
-        Step::Removed(now, dir, gone) => server.note_removed(at(now), dir, gone),
+        Step::Removed(now, dir, gone) => server.note_removed(at(now), dir, gone, None),
+        Step::RemovedDirectory(now, dir, ino) => {
+            let last = RemovedDirectory::new(at(now), empty(ino), server.times_of(ino));
+            server.note_removed(at(now), dir, Some(ino), Some(last));
+        }
+        Step::Forgotten(node) => server.forget(node),
         Step::Moved(now, old, new, object, replaced) => {
-            server.note_moved(at(now), old, new, object, replaced);
+            server.note_moved(at(now), old, new, object, replaced, None);
         }
         Step::Linked(now, dir, ino) => server.note_linked(at(now), dir, ino),
         Step::Opened(now, dir, ino, is_new, is_cut) => {
@@ -79,6 +112,12 @@ fn answer(server: &Server, step: Step) -> u64 {
         Step::Number(node) => u64::from(server.number_of(node).unwrap_or(0)),
         Step::Mtime(ino) => server.times_of(ino).mtime.seconds,
         Step::Ctime(ino) => server.times_of(ino).ctime.seconds,
+        Step::RemovedNumber(node) => {
+            removed(server, node).map_or(0, |directory| u64::from(directory.status.ino))
+        }
+        Step::RemovedCtime(node) => {
+            removed(server, node).map_or(0, |directory| directory.times.ctime.seconds)
+        }
         Step::KeptAt => server.kept_at().seconds,
         Step::IsEnded => u64::from(server.is_ended()),
         _ => 0,
@@ -99,7 +138,7 @@ impl Row for Step {
     }
 }
 
-static ROWS: [(Step, u64); 62] = [
+static ROWS: [(Step, u64); 75] = [
     // The root is node 1. A number that no new object was given is its own node.
     (Step::Node(1), 1),
     (Step::Number(1), 1),
@@ -161,6 +200,20 @@ static ROWS: [(Step, u64); 62] = [
     (Step::ModifiedAt(2, 8), 0),
     (Step::Mtime(8), 2),
     (Step::Ctime(8), 95),
+    // What is shown of a directory that was removed stays, also once its number is given again, until its node is forgotten.
+    (Step::RemovedNumber(11), 0),
+    (Step::RemovedDirectory(97, 7, 11), 0),
+    (Step::Mtime(7), 97),
+    (Step::RemovedNumber(11), 11),
+    (Step::RemovedCtime(11), 97),
+    (Step::Made(98, 1, 11), 0),
+    (Step::Ctime(11), 98),
+    (Step::RemovedCtime(11), 97),
+    (Step::RemovedNumber(4_294_967_307), 0),
+    (Step::Forgotten(4_294_967_307), 0),
+    (Step::RemovedNumber(11), 11),
+    (Step::Forgotten(11), 0),
+    (Step::RemovedNumber(11), 0),
     // When all was last made to last, and the end.
     (Step::KeptAt, 3),
     (Step::Kept(99), 0),

@@ -1,12 +1,14 @@
-use Rattle.fuse_sessions.proofs.Doings.{needs-none, needs-some, of-result, then-fails, then-ok}
+use Rattle.std.specs.Prelude.{Option}
+use Rattle.std.proofs.Common.{ap, ◌∙◌}
+use Rattle.posix_acl.specs.AccessList.{AccessList}
+use Rattle.fuse_plans.specs.Works.{give, fail, ◌>>=◌}
+use Rattle.fuse_plans.specs.AclPlans.{tell_acl}
 use Rattle.fuse_requests.proofs.xattrs.tell_acl.Goals as goal
 
-pub returns-in_err-found : goal.returns-in_err-found
-returns-in_err-found g c = then-fails _ c.from_residual.ensures c.in_err-found.ensures.did
-
 pub returns-in_default : goal.returns-in_default
-returns-in_default g c = then-ok _ c.in_ok-found.ensures.did (needs-none _ _ _ c.in_default.is)
+unfolding fail ◌>>=◌
+returns-in_default c = ap (λ (found : Option AccessList). tell_acl c.args.size found) c.in_default.is
 
 pub returns : goal.returns
-returns g c =
-    then-ok _ c.in_ok-found.ensures.did (needs-some _ _ c.in-Some.is (of-result (rw c.acl_size-has.ensures at c.sized.ensures)))
+unfolding give ◌>>=◌
+returns c = ap (λ (found : Option AccessList). tell_acl c.args.size found) c.in-Some.is ∙ rw c.acl_size-has.ensures at c.sized.ensures
