@@ -31,7 +31,7 @@ use Rattle.fuse_plans.specs.Flags.{making}
 use Rattle.fuse_plans.specs.Laws.{made_by}
 use Rattle.fuse_plans.specs.Callers.{inside, server_credential, actor_at, actor_in}
 use Rattle.fuse_plans.specs.NamePlans.{plain_name, directory_for, tell_named, or_absent, searched_directory, found_or_absent, find_inside, searcher, find_name, new_valid_if, new_valid, tell_made, make_by, make_link, make_directory, make_file, removal, remove, none_there, nothing_to_replace, may_move, rename, move_name, link_as, add_link}
-use Rattle.fuse_plans.specs.RemovedPlans.{number_seen, look_before_if, look_before, last_shown_if, last_shown}
+use Rattle.fuse_plans.specs.RemovedPlans.{inode_seen, look_before_if, look_before, last_shown_if, last_shown}
 use Rattle.fuse_plans.specs.Acts.{Subject, AskedBefore, given_name, IsObject, of_old_node, IsGivenName, IsNewName, is_new, path_of, on_name, on_new_name, moves, links}
 use Rattle.fuse_plans.specs.Conduct.{only_looks, MayCall, as_who_asks, as_server}
 use Rattle.fuse_plans.specs.Alterations.{adds_name, links_name, takes_name, moves_name, alterations_by, IsToldIn, AreTold}
@@ -258,7 +258,7 @@ module _ {rights : Role} (r : Asked) (of : IsFor rights r) where
         lasts-with (gives-caller _ of.cred) (λ cred who.
         lasts->>= (does-look_before of_directory d name (looks-named (in-own name given own))) (λ gone.
         lasts->>= (does-last_shown r.now gone) (λ last.
-        lasts-changed _ (names-as cred 0 (removal of_directory name) who path (says takes.is) (in-own name given own)) tt none _ (removed-same r.now d (number_seen gone) last)
+        lasts-changed _ (names-as cred 0 (removal of_directory name) who path (says takes.is) (in-own name given own)) tt none _ (removed-same r.now d (inode_seen gone) last)
         (changing takes) _))))
 
   -- ---- names that lead elsewhere
@@ -277,7 +277,7 @@ module _ {rights : Role} (r : Asked) (of : IsFor rights r) where
         lasts->>= (does-look_before true new new_name (looks-new renamed)) (λ replaced.
         lasts->>= (does-last_shown r.now replaced) (λ last.
         lasts-changed _ (may-do (as_who_asks who, moves name new_name refl given renamed) (told.is, tt)) tt (λ reply. refl) _
-        (moved-same r.now d new (number_seen object) (number_seen replaced) last) (changing told) _)))
+        (moved-same r.now d new (inode_seen object) (inode_seen replaced) last) (changing told) _)))
 
   module _ {known : AskedBefore} where
     pub lasts-move_name : (name : List ℕ) (new_node : ℕ) (new_name : List ℕ) (flags : ℕ) → rights.subject.operation ≡ Some (Rename name new_node new_name flags)

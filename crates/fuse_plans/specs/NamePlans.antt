@@ -27,7 +27,7 @@ use Rattle.fuse_plans.specs.Callers.{server_credential, actor_at, who_asks, insi
 use Rattle.fuse_plans.specs.Masks.{list_hides}
 use Rattle.fuse_plans.specs.Flags.{making}
 use Rattle.fuse_plans.specs.Times.{told_stamps, times_in}
-use Rattle.fuse_plans.specs.RemovedPlans.{look_before, number_seen, last_shown}
+use Rattle.fuse_plans.specs.RemovedPlans.{look_before, inode_seen, last_shown}
 
 -- ---- names, and what is told of them
 
@@ -198,7 +198,7 @@ remove r of_directory name = do
   gone ← look_before of_directory d name
   last ← last_shown r.now gone
   inside cred d (removal of_directory name)
-  keep (removed r.now d (number_seen gone) last)
+  keep (removed r.now d (inode_seen gone) last)
   give Nothing
 
 -- the one flag is that nothing may be replaced
@@ -228,7 +228,7 @@ rename now cred d name new new_name = do
   replaced ← look_before true new new_name
   last ← last_shown now replaced
   obtain (CallAt (actor_at cred 0 d new) (RenameCall name new_name))
-  keep (moved now d new (number_seen object) (number_seen replaced) last)
+  keep (moved now d new (inode_seen object) (inode_seen replaced) last)
   give Nothing
 
 abbrev pub move_name : Asked → List ℕ → ℕ → List ℕ → ℕ → Work ReplyBody

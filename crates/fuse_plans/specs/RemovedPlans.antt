@@ -1,5 +1,5 @@
 -- Directories that were removed, and may be open still: what is shown of one stays so until the kernel forgets it.
---     look_before, number_seen        what has a name that is to go
+--     look_before, inode_seen        what has a name that is to go
 --     last_shown        what is shown of a directory from then on
 --     removed_instead, or_of_removed        what is told of a node where that is what is left
 use Rattle.std.specs.Prelude.{ℕ, Bool, true, false, not, ◌||◌, List, Option, None, Some, Result, Ok, Err, if◌then◌else◌}
@@ -20,9 +20,9 @@ abbrev pub status_seen : Result Status RequestError → Option Status
 status_seen (Ok status) = Some status
 status_seen (Err e) = None
 
-abbrev pub number_seen : Option Status → Option ℕ
-number_seen None = None
-number_seen (Some status) = Some status.ino
+abbrev pub inode_seen : Option Status → Option ℕ
+inode_seen None = None
+inode_seen (Some status) = Some status.ino
 
 abbrev pub look_before_if : Bool → ℕ → List ℕ → Work (Option Status)
 look_before_if false d name = give None

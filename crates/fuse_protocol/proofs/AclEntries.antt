@@ -24,13 +24,13 @@ pub none_first : (s : List ℕ) → map numbers_of [] ≡ first_numbers s 0
 unfolding first_numbers
 none_first s = refl
 
-number_seen : (s : List ℕ) (n i : ℕ) (d : EntryNumbers) → i < n → get_or (first_numbers s n) i d ≡ numbers_at s (4 + 8 * i)
+number_in : (s : List ℕ) (n i : ℕ) (d : EntryNumbers) → i < n → get_or (first_numbers s n) i d ≡ numbers_at s (4 + 8 * i)
 unfolding first_numbers
-number_seen s zero i d below = absurd (omega arith)
-number_seen s (suc n) i d below =
+number_in s zero i d below = absurd (omega arith)
+number_in s (suc n) i d below =
     let len : length (first_numbers s n) ≡ n = length-first_numbers s n in
     elim (cases_lt i n) [
-      | inl lt ↦ get_or_append_left (first_numbers s n) (numbers_at s (4 + 8 * n) ∷ []) d i (omega (arith, len)) ∙ number_seen s n i d lt
+      | inl lt ↦ get_or_append_left (first_numbers s n) (numbers_at s (4 + 8 * n) ∷ []) d i (omega (arith, len)) ∙ number_in s n i d lt
       | inr le ↦
           let same : n ≡ i = omega arith in
           get_or_at (first_numbers s n) (numbers_at s (4 + 8 * n)) [] d i (len ∙ same) ∙ ap (λ (k : ℕ). numbers_at s (4 + 8 * k)) same
@@ -45,7 +45,7 @@ has_entry s es i count v size below =
     let within : i < length es = omega arith in (
       get_or es i none,
       sym (get_or-map numbers_of es i none (numbers_of none) within) ∙ ap (λ (r : List EntryNumbers). get_or r i (numbers_of none)) v.entries
-          ∙ number_seen s (length es) i (numbers_of none) within,
+          ∙ number_in s (length es) i (numbers_of none) within,
     )
 
 pub none_is_some : (found : Option Entry) (e : Entry) → found ≡ None → found ≡ Some e → ⊥

@@ -1,7 +1,7 @@
 //! Requests for names that are made, that go, and for further ones: each is performed as who asks.
 ghost use Rattle.std.specs.Prelude.{◌≡◌, ◌≤◌};
 ghost use Rattle.fuse_plans.specs.NamePlans.{directory_for, tell_made, make_by, make_closed, make_link, make_directory, make_file, new_valid, remove, removal, may_move, rename, move_name, link_as, add_link};
-ghost use Rattle.fuse_plans.specs.RemovedPlans.{number_seen};
+ghost use Rattle.fuse_plans.specs.RemovedPlans.{inode_seen};
 ghost use Rattle.fuse_plans.specs.Works.{of_result};
 ghost use Rattle.fuse_sessions.specs.Performing.{Did};
 
@@ -145,8 +145,8 @@ fn removal(of_directory: bool, name: Path) -> Call
 }
 
 // The inode of what was shown, if something was.
-fn number_seen(seen: Option<Status>) -> Option<u32>
-    ensures { result ≡ number_seen seen }
+fn inode_seen(seen: Option<Status>) -> Option<u32>
+    ensures { result ≡ inode_seen seen }
 {
     let status = seen?;
     Some(status.ino)
@@ -173,7 +173,7 @@ pub(crate) fn remove<M: Machine>(
     reply?.discard();
     session
         .server
-        .note_removed(asked.now, dir_ino, number_seen(gone), last);
+        .note_removed(asked.now, dir_ino, inode_seen(gone), last);
     Ok(ReplyBody::Nothing)
 }
 
@@ -246,8 +246,8 @@ fn rename<M: Machine>(
         now,
         old.dir_ino,
         new.dir_ino,
-        number_seen(object),
-        number_seen(replaced),
+        inode_seen(object),
+        inode_seen(replaced),
         last,
     );
     Ok(ReplyBody::Nothing)

@@ -25,4 +25,4 @@ returns g c =
     then-ok _ c.in_ok-dir_ino.ensures (then-ok _ (of-result c.in_ok-cred.ensures) (then-ok _ c.look_before-gone.ensures.did
     (then-ok _ c.in_ok-last.ensures.did
     (then-was _ (on-machine (rw (c.removal-call.ensures, c.look_before-gone.ensures.name, c.actor_in-actor.ensures) at c.inside-reply.ensures)) c.in_ok-reply.was
-    (keeps _ _ refl (rw c.number_seen.ensures at c.note_removed.ensures.kept) (gives _ _))))))
+    (keeps _ _ refl (rw c.inode_seen.ensures at c.note_removed.ensures.kept) (gives _ _))))))

@@ -17,4 +17,4 @@ pub returns : goal.returns
 returns g c =
     then-ok _ c.look_before-object.ensures.did (then-ok _ c.look_before-replaced.ensures.did (then-ok _ c.in_ok-last.ensures.did
     (then-was _ (on-machine (rw (c.look_before-object.ensures.name, c.look_before-replaced.ensures.name, c.actor_at-actor.ensures) at c.obtain_at-reply.ensures)) c.in_ok-reply.was
-    (keeps _ _ refl (rw (c.number_seen.ensures, c.number_seen-2.ensures) at c.note_moved.ensures.kept) (gives _ _)))))
+    (keeps _ _ refl (rw (c.inode_seen.ensures, c.inode_seen-2.ensures) at c.note_moved.ensures.kept) (gives _ _)))))
