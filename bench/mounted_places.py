@@ -9,7 +9,7 @@ import threading
 import time
 
 from mounted_strangers import COMMIT, helper_of, refused
-from mounts import TOP, is_mounted
+from mounts import TOP, as_user, is_mounted
 
 RECORDS = pathlib.Path('/run/inofs')
 MOUNTS = 12  # beside a user who renames what lies above
@@ -69,6 +69,15 @@ def killed_helper(mounted, told):
     mounted.begin()
     told.compare('places', 'records that are left', None, left & set(RECORDS.iterdir()), set())
     told.compare('places', 'unmount of the next mount', None, unmount(mounted, mounted.mount), 0)
+
+
+def closed_records(mounted, told):
+    """Who may open a file may hold its lock, for which an unmount waits: so nobody but root opens a record, or their directory."""
+    mounted.begin()
+    places = [RECORDS, *RECORDS.glob('*/lock')]
+    seen = {as_user('ann', lambda place=place: os.open(place, os.O_RDONLY)) for place in places}
+    told.compare('places', 'records that a user may open', None, (len(places) > 1, seen), (True, {'EACCES'}))
+    mounted.end()
 
 
 def capabilities(process):
@@ -192,5 +201,5 @@ def odd_images(mounted, told):
 
 def places(mounted, told):
     mounted.fresh()
-    for part in (binds, namespaces, killed_helper, surroundings, swapped, renamed, odd_images, reserved):
+    for part in (binds, namespaces, killed_helper, closed_records, surroundings, swapped, renamed, odd_images, reserved):
         part(mounted, told)
