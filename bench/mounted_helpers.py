@@ -1,9 +1,13 @@
-"""What mkfs(8) and fsck(8) call: the helpers' statuses and texts, beside a mounted image and a damaged one."""
+"""What mkfs(8) and fsck(8) call: the helpers' statuses and texts, beside a mounted image and a damaged one. And what is installed, snapshots,
+and mounts beside systemd."""
 import os
 import shutil
 import stat
 import subprocess
 
+from mounted_installs import installs
+from mounted_scopes import scopes
+from mounted_snapshots import snapshots
 from mounts import ACLS, TOP, acl_bytes, acls_of
 
 ROOT_MODE = 130 * 512 + 128 + 2  # where an image of 1,024 sectors has the mode of inode 1
@@ -62,6 +66,8 @@ def helpers(mounted, told):
         expect('mkfs', (*words, image), 1, said)
     told.compare('Helpers', 'what was refused left no file', None, image.exists(), False)
     lists_of_trees(mounted, told, expect)
+    for part in (installs, snapshots, scopes):
+        part(mounted, told)
 
 
 def lists_of_trees(mounted, told, expect):
