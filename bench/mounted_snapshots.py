@@ -15,7 +15,7 @@ RECORDS = pathlib.Path('/run/inofs')
 SYSTEM_PATH = '/usr/sbin:/usr/bin:/sbin:/bin'
 FILES = 8  # which the load writes by turns, each with the number of its turn
 SECONDS = 10  # for what comes at once
-LONG, SHORT = 60, 3  # of a copy that is ended, and of one that goes on behind a kill
+LONG, SHORT = 60, 1  # of a copy that is ended, and of one that goes on behind a kill
 OTHER_COPY = 'mount --bind "$0" "$1" && shift && exec "$@"'
 
 
@@ -31,6 +31,13 @@ def refusal(mounted, image, copy):
 
 def stands_still(process):
     return pathlib.Path(f'/proc/{process}/stat').read_text().rsplit(') ', 1)[1][0] == 'T'
+
+
+def goes_on(server):
+    """Whether it does. From then on it does, so that nothing waits for ever here."""
+    stood = stands_still(server)
+    os.kill(server, signal.SIGCONT)
+    return not stood
 
 
 def comes(work):
@@ -91,11 +98,12 @@ def under_load(mounted, told):
     with load_on(mounted.mount):
         before = turn_in(mounted.mount / 'f0')
         said = snapshot(mounted, mounted.image, copy)
+        told.compare('Snapshot', 'the server goes on', None, goes_on(server), True)
         behind = turn_in(mounted.mount / 'f0')
         seen = said.returncode, said.stdout.startswith(f'{copy}: clean files'), said.stderr
         told.compare('Snapshot', 'its status and line', None, seen, (0, True, ''))
         told.compare('Snapshot', 'the load goes on', None, comes(lambda: turn_in(mounted.mount / 'f0') > behind), True)
-    told.compare('Snapshot', 'the server', None, (mounted.server(), stands_still(server)), (server, False))
+    told.compare('Snapshot', 'the server', None, mounted.server(), server)
     told.compare('Snapshot', 'mode of the copy', None, oct(stat.S_IMODE(copy.stat().st_mode)), '0o600')
     turns, synced = looked_at(mounted, copy)
     told.compare('Snapshot', f'turns of the load in it, {turns}, behind {before}', None, is_of_one_moment(turns, before), True)
@@ -113,7 +121,7 @@ def failing(mounted, told):
     mounted.run('mount', '-t', 'tmpfs', '-o', 'size=64k', 'tmpfs', small, check=True)
     (mounted.mount / 'large').write_bytes(os.urandom(1 << 20))
     told.compare('Snapshot', 'where there is no space', None, refusal(mounted, mounted.image, small / 'copy'), (1, "it can't be copied"))
-    told.compare('Snapshot', 'what that leaves', None, (stands_still(server), list(small.iterdir())), (False, []))
+    told.compare('Snapshot', 'what that leaves', None, (goes_on(server), list(small.iterdir())), (True, []))
     mounted.run('umount', small, check=True)
     small.rmdir()
     (mounted.folder / 'copy.part').touch()
@@ -149,7 +157,7 @@ def decoys(mounted, told):
     server, named = mounted.server(), record_of(mounted.image) / 'server'
     right = named.read_text()
     told.compare('Snapshot', 'the number in the record', None, int(right.split()[0]), server)
-    with decoy_of(mounted) as decoy, slow_copy(mounted, server, LONG) as copying:
+    with decoy_of(mounted) as decoy, slow_copy(mounted, LONG) as copying:
         told.compare('Snapshot', 'who stands still', None, (stands_still(server), stands_still(decoy)), (True, False))
         told.compare('Snapshot', 'beside another', None, refusal(mounted, mounted.image, mounted.folder / 'other'),
                      (1, 'another snapshot of it is being made'))
@@ -158,42 +166,50 @@ def decoys(mounted, told):
         named.write_text(f'{decoy} {right.split()[1]}\n')
         seen = refusal(mounted, mounted.image, mounted.folder / 'copy')
         told.compare('Snapshot', "another one's number", None, seen, (1, 'its server has ended'))
-        told.compare('Snapshot', 'who stands still then', None, (stands_still(server), stands_still(decoy)), (False, False))
+        told.compare('Snapshot', 'who goes on then', None, (goes_on(server), goes_on(decoy)), (True, True))
     named.write_text(right)
 
 
+def heed_signals():
+    """No shell heeds a signal that was ignored when it began, as nohup(1) and a shell's background have it."""
+    for number in (signal.SIGHUP, signal.SIGINT, signal.SIGTERM):
+        signal.signal(number, signal.SIG_DFL)
+
+
 @contextlib.contextmanager
-def slow_copy(mounted, server, seconds):
-    """A snapshot whose copying, by another cp(1) in its own namespace of mounts, takes so long: from when the server stands still."""
-    copy, slow = shutil.which('cp', path=SYSTEM_PATH), mounted.folder / 'slow'
-    slow.write_text(f'#!/bin/sh\nexec sleep {seconds}\n')
+def slow_copy(mounted, seconds):
+    """A snapshot whose copying, by another cp(1) in its own namespace of mounts, takes so long: from when that has begun."""
+    copy, slow, begun = shutil.which('cp', path=SYSTEM_PATH), mounted.folder / 'slow', mounted.folder / 'begun'
+    slow.write_text(f'#!/bin/sh\n: > "{begun}"\nexec sleep {seconds}\n')
     slow.chmod(0o755)
     words = ['unshare', '-m', '--propagation', 'private', 'sh', '-c', OTHER_COPY, slow, os.path.realpath(copy),
              TOP / 'mount/inofs-snapshot', mounted.image, mounted.folder / 'copy']
-    process = subprocess.Popen(words, env=mounted.environment, stdout=subprocess.DEVNULL, stderr=subprocess.DEVNULL)
+    process = subprocess.Popen(words, env=mounted.environment, stdout=subprocess.DEVNULL, stderr=subprocess.DEVNULL, preexec_fn=heed_signals)
     try:
-        comes(lambda: stands_still(server))
+        comes(begun.exists)
         yield process
     finally:
         process.kill()
         process.wait()
         slow.unlink()
+        begun.unlink(missing_ok=True)
 
 
 def ended(mounted, told):
     """A snapshot that is ended leaves a server that goes on; behind a kill it does once the copying has ended."""
     server = mounted.server()
     for number in (signal.SIGHUP, signal.SIGINT, signal.SIGTERM):
-        with slow_copy(mounted, server, LONG) as copying:
+        with slow_copy(mounted, LONG) as copying:
             stood = stands_still(server)
             copying.send_signal(number)
             status = copying.wait(SECONDS)
             left = [path.name for path in mounted.folder.glob('copy*')]
-            seen = stood, status, stands_still(server), left
-            told.compare('Snapshot', f'ended by {number.name}', None, seen, (True, 128 + number, False, []))
-    with slow_copy(mounted, server, SHORT) as copying:
+            seen = stood, status, goes_on(server), left
+            told.compare('Snapshot', f'ended by {number.name}', None, seen, (True, 128 + number, True, []))
+    with slow_copy(mounted, SHORT) as copying:
         copying.kill()
         told.compare('Snapshot', 'killed: the server goes on', None, (copying.wait(), comes(lambda: not stands_still(server))), (-9, True))
+        goes_on(server)
     (mounted.folder / 'copy.part').unlink()
 
 
