@@ -1,3 +1,4 @@
+pub mod Askers
 pub mod Getters
 pub mod Refusals
 pub mod Splits

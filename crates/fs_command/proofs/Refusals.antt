@@ -8,7 +8,7 @@ use Rattle.clap.specs.declared.error.kind.ErrorKind.TheVariants as kind
 use Rattle.fs_command.specs.Words.{IsShown, IsSortOf, HasBadValue, SaysJob, Refuses, AsksFor, command_line}
 use Rattle.fs_command.specs.declared.words.Job.{Job}
 use Rattle.fs_command.specs.declared.words.WordsFault.{WordsFault}
-use Rattle.fs_command.specs.declared.words.WordsFault.TheVariants.{Help, BadWords, BadSize, OutOfMemory}
+use Rattle.fs_command.specs.declared.words.WordsFault.TheVariants.{Help, BadWords, BadSize, BadPerm, BadUser, BadCaps, OutOfMemory}
 
 shown_is_no_want : (k : ErrorKind) → k ≡ kind.OutOfMemory → IsShown k → ⊥
 shown_is_no_want k out (inl h) =
@@ -27,6 +27,9 @@ sorted : (words : List Text) (e : Error) (fault : WordsFault) → IsSortOf e fau
 sorted words e (Help x) is has = (among words e x is.0 (λ out. shown_is_no_want (kind_of x) out is.1) has, is.1)
 sorted words e (BadWords x) is has = (among words e x is.0 is.2 has, is.1)
 sorted words e BadSize is has = absurd is
+sorted words e BadPerm is has = absurd is
+sorted words e BadUser is has = absurd is
+sorted words e BadCaps is has = absurd is
 sorted words e OutOfMemory is has = tt
 
 pub refused : (words : List Text) (e : Error) (r : Result Job WordsFault) → IsErrAnd r (IsSortOf e) → HasKind (fault_of command_line words) e
@@ -41,6 +44,9 @@ read words named (Ok job) none is says = subst (λ n. SaysJob n job) is says
 read words named (Err (Help e)) none is has = absurd has
 read words named (Err (BadWords e)) none is has = absurd has
 read words named (Err BadSize) none is has = (none, subst (λ n. HasBadValue n BadSize) is has)
+read words named (Err BadPerm) none is has = (none, subst (λ n. HasBadValue n BadPerm) is has)
+read words named (Err BadUser) none is has = (none, subst (λ n. HasBadValue n BadUser) is has)
+read words named (Err BadCaps) none is has = (none, subst (λ n. HasBadValue n BadCaps) is has)
 read words named (Err OutOfMemory) none is has = tt
 
 pub if_taken : {P : Type 0} (r : Result Job WordsFault) → P → IfOk r (λ job. P)

@@ -85,6 +85,24 @@ fuse_sound = (
   ),
 )
 
+access_sound : Each (Sound (leaf 9).rules) (leaf 9).rules
+access_sound = (
+  (refl, inl (refl, refl, refl)),
+  (
+    (refl, inl (refl, refl, refl)),
+    (
+      (refl, inl (refl, refl, refl)),
+      (
+        (refl, inl (refl, refl, refl)),
+        (
+          (refl, inl (refl, refl, refl)),
+          ((refl, inr (inl (refl, refl, refl, refl, refl, refl))), ((refl, inr (inr (refl, refl))), tt)),
+        ),
+      ),
+    ),
+  ),
+)
+
 mkfs_has : HasAll (leaf 0)
 mkfs_has words fault =
     let values = leaf_values (leaf 0) words mkfs_sound refl fault in
@@ -101,6 +119,7 @@ mkfs_has words fault =
       check = λ is. of_another is refl;
       info = λ is. of_another is refl;
       fuse = λ is. of_another is refl;
+      access = λ is. of_another is refl;
     }
 
 format_has : HasAll (leaf 1)
@@ -119,6 +138,7 @@ format_has words fault =
       check = λ is. of_another is refl;
       info = λ is. of_another is refl;
       fuse = λ is. of_another is refl;
+      access = λ is. of_another is refl;
     }
 
 pack_has : HasAll (leaf 2)
@@ -141,6 +161,7 @@ pack_has words fault =
       check = λ is. of_another is refl;
       info = λ is. of_another is refl;
       fuse = λ is. of_another is refl;
+      access = λ is. of_another is refl;
     }
 
 unpack_has : HasAll (leaf 3)
@@ -158,6 +179,7 @@ unpack_has words fault =
       check = λ is. of_another is refl;
       info = λ is. of_another is refl;
       fuse = λ is. of_another is refl;
+      access = λ is. of_another is refl;
     }
 
 run_has : HasAll (leaf 4)
@@ -173,6 +195,7 @@ run_has words fault =
       check = λ is. of_another is refl;
       info = λ is. of_another is refl;
       fuse = λ is. of_another is refl;
+      access = λ is. of_another is refl;
     }
 
 check_has : HasAll (leaf 5)
@@ -189,6 +212,7 @@ check_has words fault =
       check = λ _. explain;
       info = λ is. of_another is refl;
       fuse = λ is. of_another is refl;
+      access = λ is. of_another is refl;
     }
 
 info_has : HasAll (leaf 6)
@@ -205,6 +229,7 @@ info_has words fault =
       check = λ is. of_another is refl;
       info = λ _. json;
       fuse = λ is. of_another is refl;
+      access = λ is. of_another is refl;
     }
 
 upgrade_has : HasAll (leaf 7)
@@ -220,6 +245,7 @@ upgrade_has words fault =
       check = λ is. of_another is refl;
       info = λ is. of_another is refl;
       fuse = λ is. of_another is refl;
+      access = λ is. of_another is refl;
     }
 
 fuse_has : HasAll (leaf 8)
@@ -237,10 +263,32 @@ fuse_has words fault =
       check = λ is. of_another is refl;
       info = λ is. of_another is refl;
       fuse = λ _. (own_rules, (λ text is. counted 0 86400 _ (commit text is).0 (is ∙ ap Some (commit text is).1) (commit text is).2));
+      access = λ is. of_another is refl;
+    }
+
+access_has : HasAll (leaf 9)
+access_has words fault =
+    let values = leaf_values (leaf 9) words access_sound refl fault in
+    let image = values.0 refl in
+    let path = values.1.0 refl in
+    let perm = values.1.1.0 refl in
+    let user = values.1.1.1.0 refl in
+    let json = (leaf_flags (leaf 9) words access_sound fault).1.1.1.1.1.0 (refl, refl, refl, refl, refl, refl) in
+    record {
+      known = refl;
+      image = (image.0, image.1);
+      mkfs = λ is. of_another is refl;
+      format = λ is. of_another is refl;
+      pack = λ is. of_another is refl;
+      unpack = λ is. of_another is refl;
+      check = λ is. of_another is refl;
+      info = λ is. of_another is refl;
+      fuse = λ is. of_another is refl;
+      access = λ _. ((path.0, path.1), (perm.0, perm.1), (user.0, user.1), json);
     }
 
 each_has : Each HasAll (built command_line).subs
-each_has = (mkfs_has, (format_has, (pack_has, (unpack_has, (run_has, (check_has, (info_has, (upgrade_has, (fuse_has, tt)))))))))
+each_has = (mkfs_has, (format_has, (pack_has, (unpack_has, (run_has, (check_has, (info_has, (upgrade_has, (fuse_has, (access_has, tt))))))))))
 
 entered_has : (stop : Option (Text × List Text)) → entered_fault (built command_line) stop ≡ [] → HasValues (entered (built command_line) stop)
 entered_has None fault = tt

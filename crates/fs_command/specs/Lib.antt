@@ -1,3 +1,4 @@
 pub mod Sizes
 pub mod Statuses
+pub mod Users
 pub mod Words

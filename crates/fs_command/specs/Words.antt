@@ -15,11 +15,14 @@ use Rattle.clap.specs.declared.builder.value_parser.ValueParser.TheVariants as v
 use Rattle.clap.specs.declared.error.Error.{Error}
 use Rattle.clap.specs.declared.error.kind.ErrorKind.{ErrorKind}
 use Rattle.clap.specs.declared.error.kind.ErrorKind.TheVariants as kind
+use Rattle.posix_acl.specs.declared.entry.Perms.{Perms}
+use Rattle.fs_cred.specs.Credentials.{Credential}
+use Rattle.fs_command.specs.Users.{SaysNoCaps, SaysNoUser, SaysUser, perms_said}
 use Rattle.fs_command.specs.Sizes.{IsNoSize, IsSize, usual_inodes}
 use Rattle.fs_command.specs.declared.words.Job.{Job}
-use Rattle.fs_command.specs.declared.words.Job.TheVariants.{Memory, Mkfs, Format, Pack, Unpack, Run, Check, Info, Upgrade, Fuse}
+use Rattle.fs_command.specs.declared.words.Job.TheVariants.{Memory, Mkfs, Format, Pack, Unpack, Run, Check, Info, Upgrade, Fuse, Access}
 use Rattle.fs_command.specs.declared.words.WordsFault.{WordsFault}
-use Rattle.fs_command.specs.declared.words.WordsFault.TheVariants.{Help, BadWords, BadSize, OutOfMemory}
+use Rattle.fs_command.specs.declared.words.WordsFault.TheVariants.{Help, BadWords, BadSize, BadPerm, BadUser, BadCaps, OutOfMemory}
 use Rattle.fs_command.specs.declared.status.Status.{Status}
 use Rattle.fs_command.specs.declared.status.Status.TheVariants as statuses
 
@@ -85,6 +88,14 @@ abbrev pub fuse : App
 fuse = with_rule (with_rule (with_rule (with_rule (new_app (codes "fuse")) image) (text_option (codes "denials"))) (flag (codes "own-rules")))
     (number_option (codes "commit") 0 86400)
 
+-- the argument has to be given
+abbrev pub required_rule : Text → Rule
+required_rule name = record (new_rule name) { required = true }
+
+abbrev pub access : App
+access = with_rule (with_rule (with_rule (with_rule (with_rule (with_rule (new_app (codes "access")) image) (required_rule (codes "PATH")))
+    (required_rule (codes "PERM"))) (must_be_given (text_option (codes "user")))) (text_option (codes "caps"))) (flag (codes "json"))
+
 -- the program alone, with `--version` and no command `help`
 abbrev pub alone : App
 alone = record (new_app (codes "inofs")) {
@@ -99,7 +110,7 @@ abbrev pub with_users : App
 with_users = with_subcommand (with_subcommand (with_subcommand with_makers unpack.top) run.top) check.top
 
 abbrev pub command_line : App
-command_line = with_subcommand (with_subcommand (with_subcommand with_users info.top) upgrade.top) fuse.top
+command_line = with_subcommand (with_subcommand (with_subcommand (with_subcommand with_users info.top) upgrade.top) fuse.top) access.top
 
 -- ---- what it reads
 
@@ -172,6 +183,22 @@ SaysFuse rows (Fuse image denials own_rules commit) = (first_of (codes "IMAGE") 
     × IsNumberOr 0 0 86400 (one_of (codes "commit") rows) commit
 SaysFuse rows job = ⊥
 
+-- the text says permissions
+abbrev pub ArePermsFor : Option Text → Perms → Type 0
+ArePermsFor None perms = ⊥
+ArePermsFor (Some text) perms = perms_said text ≡ Some perms
+
+-- the text says a user with groups, and the other one capabilities, if there is one
+abbrev pub IsUserFor : Option Text → Option Text → Credential → Type 0
+IsUserFor None caps cred = ⊥
+IsUserFor (Some text) caps cred = SaysUser text caps cred
+
+abbrev pub SaysAccess : List Row → Job → Type 0
+SaysAccess rows (Access image path perms cred json) = (first_of (codes "IMAGE") rows ≡ Some image) × (first_of (codes "PATH") rows ≡ Some path)
+    × ArePermsFor (first_of (codes "PERM") rows) perms × IsUserFor (first_of (codes "user") rows) (first_of (codes "caps") rows) cred
+    × (is_given (codes "json") rows ≡ json)
+SaysAccess rows job = ⊥
+
 -- the job of a command and its values, or of none
 abbrev pub SaysJob : Option (Text × List Row) → Job → Type 0
 SaysJob named Memory = named ≡ None
@@ -187,6 +214,8 @@ SaysJob named (Info image json) = (rows : List Row) × (named ≡ Some (codes "i
 SaysJob named (Upgrade image) = (rows : List Row) × (named ≡ Some (codes "upgrade", rows)) × SaysUpgrade rows (Upgrade image)
 SaysJob named (Fuse image denials own_rules commit) =
     (rows : List Row) × (named ≡ Some (codes "fuse", rows)) × SaysFuse rows (Fuse image denials own_rules commit)
+SaysJob named (Access image path perms cred json) =
+    (rows : List Row) × (named ≡ Some (codes "access", rows)) × SaysAccess rows (Access image path perms cred json)
 
 -- the job is that of the command that the words name, with its values. The first word is the program's name.
 abbrev pub AsksFor : List Text → Job → Type 0
@@ -203,6 +232,9 @@ abbrev pub IsSortOf : Error → WordsFault → Type 0
 IsSortOf error (Help e) = (e ≡ error) × IsShown (kind_of e)
 IsSortOf error (BadWords e) = (e ≡ error) × (IsShown (kind_of e) → ⊥) × (kind_of e ≢ kind.OutOfMemory)
 IsSortOf error BadSize = ⊥
+IsSortOf error BadPerm = ⊥
+IsSortOf error BadUser = ⊥
+IsSortOf error BadCaps = ⊥
 IsSortOf error OutOfMemory = kind_of error ≡ kind.OutOfMemory
 
 -- the size is given and is none in range; memory may run out at any values
@@ -211,18 +243,36 @@ HasBadSize rows BadSize = (text : Text) × (first_of (codes "size") rows ≡ Som
 HasBadSize rows OutOfMemory = Unit {0}
 HasBadSize rows fault = ⊥
 
--- the command is `format` or `pack`, and its size is none in range; memory may run out at any command
+-- the permissions, the user or the capabilities are given and are none; memory may run out at any values
+abbrev pub HasBadAccess : List Row → WordsFault → Type 0
+HasBadAccess rows BadPerm = (text : Text) × (first_of (codes "PERM") rows ≡ Some text) × (perms_said text ≡ None)
+HasBadAccess rows BadUser = (text : Text) × (first_of (codes "user") rows ≡ Some text) × SaysNoUser text
+HasBadAccess rows BadCaps = (text : Text) × (first_of (codes "caps") rows ≡ Some text) × SaysNoCaps text
+HasBadAccess rows OutOfMemory = Unit {0}
+HasBadAccess rows fault = ⊥
+
+-- the command is `access`, and one of these is bad
+abbrev pub IsBadAccess : Option (Text × List Row) → WordsFault → Type 0
+IsBadAccess named fault = (rows : List Row) × (named ≡ Some (codes "access", rows)) × HasBadAccess rows fault
+
+-- the command is `format` or `pack`, and its size is none in range, or it is `access`; memory may run out at any command
 abbrev pub HasBadValue : Option (Text × List Row) → WordsFault → Type 0
 HasBadValue named BadSize =
     (rows : List Row) × ((named ≡ Some (codes "format", rows)) ⊎ (named ≡ Some (codes "pack", rows))) × HasBadSize rows BadSize
+HasBadValue named BadPerm = IsBadAccess named BadPerm
+HasBadValue named BadUser = IsBadAccess named BadUser
+HasBadValue named BadCaps = IsBadAccess named BadCaps
 HasBadValue named OutOfMemory = Unit {0}
 HasBadValue named fault = ⊥
 
--- the definition gives the words an error of this kind; or it gives none, and the size is bad; memory may run out at any words
+-- the definition gives the words an error of this kind; or it gives none, and a value is bad; memory may run out at any words
 abbrev pub Refuses : List Text → WordsFault → Type 0
 Refuses words (Help e) = IsAmong (kind_of e) (fault_of command_line words) × IsShown (kind_of e)
 Refuses words (BadWords e) = IsAmong (kind_of e) (fault_of command_line words) × (IsShown (kind_of e) → ⊥)
 Refuses words BadSize = (fault_of command_line words ≡ []) × HasBadValue (subcommand_of command_line words) BadSize
+Refuses words BadPerm = (fault_of command_line words ≡ []) × HasBadValue (subcommand_of command_line words) BadPerm
+Refuses words BadUser = (fault_of command_line words ≡ []) × HasBadValue (subcommand_of command_line words) BadUser
+Refuses words BadCaps = (fault_of command_line words ≡ []) × HasBadValue (subcommand_of command_line words) BadCaps
 Refuses words OutOfMemory = Unit {0}
 
 -- done where a text was asked for, else bad words
@@ -230,6 +280,9 @@ abbrev pub words_status : WordsFault → Status
 words_status (Help e) = statuses.Done
 words_status (BadWords e) = statuses.BadWords
 words_status BadSize = statuses.BadWords
+words_status BadPerm = statuses.BadWords
+words_status BadUser = statuses.BadWords
+words_status BadCaps = statuses.BadWords
 words_status OutOfMemory = statuses.BadWords
 
 -- ---- what is met where words are taken
@@ -250,12 +303,13 @@ IsNumberIfGiven least most id rows = (text : Text) → one_of id rows ≡ Some t
 abbrev pub IsFlag : Text → List Row → Type 0
 IsFlag id rows = (one_of id rows ≡ Some (bool_text (is_given id rows))) ⊎ ((one_of id rows ≡ None) × (is_given id rows ≡ false))
 
--- the names of the nine commands
+-- the names of the ten commands
 abbrev pub command_names : List Text
 command_names =
-    codes "mkfs" ∷ codes "format" ∷ codes "pack" ∷ codes "unpack" ∷ codes "run" ∷ codes "check" ∷ codes "info" ∷ codes "upgrade" ∷ codes "fuse" ∷ []
+    codes "mkfs" ∷ codes "format" ∷ codes "pack" ∷ codes "unpack" ∷ codes "run" ∷ codes "check" ∷ codes "info" ∷ codes "upgrade" ∷ codes "fuse"
+    ∷ codes "access" ∷ []
 
--- the command is one of the nine, and has the values that have to be given
+-- the command is one of the ten, and has the values that have to be given
 pub record IsWhole (name : Text) (rows : List Row) : Type 0 where
   pub known : list_any (λ command. bytes_eq name command) command_names ≡ true
   pub image : IsGiven (codes "IMAGE") rows
@@ -267,6 +321,8 @@ pub record IsWhole (name : Text) (rows : List Row) : Type 0 where
   pub check : name ≡ codes "check" → IsFlag (codes "explain") rows
   pub info : name ≡ codes "info" → IsFlag (codes "json") rows
   pub fuse : name ≡ codes "fuse" → IsFlag (codes "own-rules") rows × IsNumberIfGiven 0 86400 (codes "commit") rows
+  pub access : name ≡ codes "access" → IsGiven (codes "PATH") rows × IsGiven (codes "PERM") rows × IsGiven (codes "user") rows
+      × IsFlag (codes "json") rows
 
 abbrev pub HasValues : Option (Text × List Row) → Type 0
 HasValues None = Unit {0}

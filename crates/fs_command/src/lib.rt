@@ -5,6 +5,7 @@
 
 mod size;
 mod status;
+mod user;
 mod words;
 
 pub use status::Status;

@@ -2,18 +2,21 @@
 ghost use Rattle.std.specs.Prelude.{◌≡◌, MatchResult, Ok, IfOk, IsOkAnd, Some, [], codes, map, string_bytes, false};
 ghost use Rattle.clap.specs.Takes.{is_given};
 ghost use Rattle.clap.specs.Words.{AddsSubcommand, app_of, first_of, found_of, new_app, one_of, rows_of, rule_of, fault_of, subcommand_rows_of, with_rule};
-ghost use Rattle.fs_command.specs.Words.{command_line, with_users, with_makers, alone, mkfs, format, pack, unpack, run, check, info, upgrade, fuse};
-ghost use Rattle.fs_command.specs.Words.{image, directory, must_be_given, number_option, text_option, flag, with_size, words_status};
+ghost use Rattle.fs_command.specs.Words.{command_line, with_users, with_makers, alone, mkfs, format, pack, unpack, run, check, info, upgrade, fuse, access};
+ghost use Rattle.fs_command.specs.Words.{image, directory, required_rule, must_be_given, number_option, text_option, flag, with_size, words_status};
 ghost use Rattle.fs_command.specs.Sizes.{usual_inodes};
 ghost use Rattle.fs_command.specs.Words.{HasValues, IsGiven, IsNumberGiven, IsNumberIfGiven, IsNumberOr, IsFlag, IsSizeFor, IsWhole, AsksFor, SaysJob, Refuses};
 ghost use Rattle.fs_command.specs.declared.words.WordsFault.TheVariants.{OutOfMemory};
-ghost use Rattle.fs_command.specs.Words.{SaysMkfs, SaysFormat, SaysPack, SaysUnpack, SaysRun, SaysCheck, SaysInfo, SaysUpgrade, SaysFuse, HasBadSize, HasBadValue};
+ghost use Rattle.fs_command.specs.Words.{SaysMkfs, SaysFormat, SaysPack, SaysUnpack, SaysRun, SaysCheck, SaysInfo, SaysUpgrade, SaysFuse, SaysAccess, HasBadSize, HasBadAccess, HasBadValue};
 
 use crate::size::{sectors_of_size, usual_inodes};
 use crate::status::Status;
+use crate::user::{perms_given, user_given};
 use clap::builder::ValueParser;
 use clap::error::ErrorKind;
 use clap::{Arg, ArgAction, ArgMatches, Command, Error};
+use fs_cred::Cred;
+use posix_acl::Perms;
 use std::alloc::{AllocError, Global};
 use std::marker::Model;
 use thiserror::Error as ThisError;
@@ -30,12 +33,13 @@ const USAGE: &str = "inofs
        inofs check [--explain] IMAGE
        inofs info [--json] IMAGE
        inofs upgrade IMAGE
-       inofs fuse IMAGE [--denials FILE] [--own-rules] [--commit SECONDS]";
+       inofs fuse IMAGE [--denials FILE] [--own-rules] [--commit SECONDS]
+       inofs access IMAGE PATH PERM --user UID:GID[,GID..] [--caps NAME[,NAME..]] [--json]";
 
 const STATUSES: &str =
     "With no command, runs the script on the standard input on a new disk in memory.
 
-Status: 0 done, 1 a line's fault or a finding, 2 bad words, 3 every other fault.";
+Status: 0 done, 1 a line's fault, a finding or a denial, 2 bad words, 3 every other fault.";
 
 /// A text of the command line.
 #[derive(Drop)]
@@ -151,6 +155,19 @@ pub enum Job {
         /// After how many seconds a request has everything kept first; 0 where none does.
         commit: u32,
     },
+    /// To say whether somebody may do something at a path, and why.
+    Access {
+        /// The image's path.
+        image: Text,
+        /// The path in the image.
+        path: Text,
+        /// What they are to do.
+        perms: Perms,
+        /// Who it is.
+        cred: Cred,
+        /// In one line of JSON, for programs.
+        json: bool,
+    },
 }
 
 /// Why the words ask for nothing that can be done.
@@ -165,6 +182,15 @@ pub enum WordsFault {
     /// The size of the image to be made is none, or out of range.
     #[error("error: invalid value for '--size <SIZE>': 512K to 8G, in bytes or with K, M or G behind\n")]
     BadSize,
+    /// The permissions are none.
+    #[error("error: invalid value for '<PERM>': r, w and x, as in r, rw or r-x\n")]
+    BadPerm,
+    /// The user and its groups are none.
+    #[error("error: invalid value for '--user <UID:GID>': a user, a colon, and 1 to 17 groups with commas between\n")]
+    BadUser,
+    /// The capabilities are none.
+    #[error("error: invalid value for '--caps <NAMES>': none, or some of chown, dac-override, dac-read-search, fowner and fsetid, in this order with commas between\n")]
+    BadCaps,
     /// Memory ran out.
     #[error("error: out of memory\n")]
     OutOfMemory,
@@ -201,8 +227,12 @@ impl WordsFault {
     {
         match self {
             WordsFault::Help(_) => Status::Done,
-            WordsFault::BadWords(_) | WordsFault::BadSize | WordsFault::OutOfMemory =>
-                Status::BadWords,
+            WordsFault::BadWords(_)
+            | WordsFault::BadSize
+            | WordsFault::BadPerm
+            | WordsFault::BadUser
+            | WordsFault::BadCaps
+            | WordsFault::OutOfMemory => Status::BadWords,
         }
     }
 }
@@ -245,6 +275,7 @@ fn command_job(alloc: Global, name: &str, matches: &ArgMatches<'_>) -> Result<Jo
         "info" => if_made(info_job(alloc, matches)),
         "upgrade" => if_made(upgrade_job(alloc, matches)),
         "fuse" => if_made(fuse_job(alloc, matches)),
+        "access" => access_job(alloc, matches),
         _ => unreachable!(),
     }
 }
@@ -386,6 +417,29 @@ fn fuse_job(alloc: Global, matches: &ArgMatches<'_>) -> Result<Job, AllocError>
     })
 }
 
+// The job of `access`.
+fn access_job(alloc: Global, matches: &ArgMatches<'_>) -> Result<Job, WordsFault>
+    requires image { IsGiven (codes "IMAGE") (rows_of (found_of matches.now)) }
+    requires path { IsGiven (codes "PATH") (rows_of (found_of matches.now)) }
+    requires perm { IsGiven (codes "PERM") (rows_of (found_of matches.now)) }
+    requires user { IsGiven (codes "user") (rows_of (found_of matches.now)) }
+    requires json { IsFlag (codes "json") (rows_of (found_of matches.now)) }
+    ensures { MatchResult result (SaysAccess (rows_of (found_of matches.now))) (HasBadAccess (rows_of (found_of matches.now))) }
+{
+    let perms = perms_given(matches)?;
+    let cred = user_given(alloc, matches)?;
+    let json = flag_given(matches, "json");
+    let image = text_given(alloc, matches, "IMAGE")?;
+    let path = text_given(alloc, matches, "PATH")?;
+    Ok(Job::Access {
+        image,
+        path,
+        perms,
+        cred,
+        json,
+    })
+}
+
 // The text of an argument that has one.
 fn text_given(alloc: Global, matches: &ArgMatches<'_>, name: &str) -> Result<Text, AllocError>
     requires given { IsGiven name.now (rows_of (found_of matches.now)) }
@@ -453,7 +507,8 @@ fn program<'a>(alloc: Global) -> Result<Command<'a>, AllocError>
     let program = program_with_users(alloc)?;
     let program = with_command(program, info_command(alloc))?;
     let program = with_command(program, upgrade_command(alloc))?;
-    with_command(program, fuse_command(alloc))
+    let program = with_command(program, fuse_command(alloc))?;
+    with_command(program, access_command(alloc))
 }
 
 // The program with the commands that make images, and with those that go over what is in one.
@@ -645,6 +700,29 @@ fn fuse_command<'a>(alloc: Global) -> Result<Command<'a>, AllocError>
     ))
 }
 
+// The words of `access`.
+fn access_command<'a>(alloc: Global) -> Result<Command<'a>, AllocError>
+    ensures { IfOk result (λ command. app_of command ≡ access) }
+{
+    on_image(
+        alloc,
+        "access",
+        "Say whether somebody may do something at a path of an image, and why",
+        "The image",
+    )?
+    .arg(required(alloc, "PATH").help("The path in the image"))?
+    .arg(required(alloc, "PERM").help("What they are to do: r, w, x or some of these"))?
+    .arg(
+        text_option(alloc, "user", "UID:GID[,GID..]")
+            .required(true)
+            .help("The user, its group, and up to 16 further ones"),
+    )?
+    .arg(text_option(alloc, "caps", "NAME[,NAME..]").help(
+        "Its capabilities, or none; without it user 0 has all, and others none",
+    ))?
+    .arg(flag(alloc, "json").help("Say it in one line of JSON"))
+}
+
 // A command on an image.
 fn on_image<'a>(
     alloc: Global,
@@ -673,6 +751,14 @@ fn directory<'a>(alloc: Global) -> Arg<'a>
     ensures local { result.global ≡ false }
 {
     Arg::new(alloc, "DIR").required(true)
+}
+
+// A word that has to be given.
+fn required<'a>(alloc: Global, name: &'a str) -> Arg<'a>
+    ensures rule { rule_of result ≡ required_rule name.entry.now }
+    ensures local { result.global ≡ false }
+{
+    Arg::new(alloc, name).required(true)
 }
 
 // A number that may be given, within its bounds.

@@ -126,7 +126,8 @@ fn count_pieces(word: &[u8]) -> usize
     word.split(|byte| *byte == b',').count()
 }
 
-fn read_ids(alloc: Global, word: &[u8]) -> Result<Vec<u32>, LineFault>
+/// Ids with commas between them.
+pub fn read_ids(alloc: Global, word: &[u8]) -> Result<Vec<u32>, LineFault>
     ensures { Gives (λ groups. groups.items) result (each id_of (slice_split is_comma word.now)) }
 {
     let mut ids = Vec::new(alloc);
@@ -157,7 +158,8 @@ pub fn read_caps(word: &[u8]) -> Result<Caps, LineFault>
     }
 }
 
-fn caps_named(names: &[u8]) -> Result<Caps, LineFault>
+/// The capabilities with these names, by rising bits with commas between them.
+pub fn caps_named(names: &[u8]) -> Result<Caps, LineFault>
     ensures { result ≡ caps_with no_caps (slice_split is_comma names.now) }
 {
     let mut caps = Caps::empty();

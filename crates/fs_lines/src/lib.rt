@@ -13,8 +13,9 @@ mod places;
 mod text;
 mod words;
 
+pub use forms::{caps_named, read_id, read_ids, read_perms};
 pub use laws::a_line_says_one_thing;
 pub use line::{Line, LineFault, MAX_LINE};
 pub use parse::parse_line;
 pub use places::len_before;
-pub use text::{fault_text, reply_text, word_text};
+pub use text::{fault_text, hex_digit, need_text, reply_text, rule_text, word_text};

@@ -56,6 +56,24 @@ pub fn word_text(alloc: Global, bytes: &[u8]) -> Result<String, AllocError>
     Ok(text)
 }
 
+/// The text of a rule that decides.
+pub fn rule_text(alloc: Global, rule: Rule) -> Result<String, AllocError>
+    ensures { IfOk result (λ text. string_bytes text ≡ rule_text rule) }
+{
+    let mut text = String::new(alloc);
+    push_rule(&mut text, rule)?;
+    Ok(text)
+}
+
+/// The text of what a call asks for at an object.
+pub fn need_text(alloc: Global, need: Need) -> Result<String, AllocError>
+    ensures { IfOk result (λ text. string_bytes text ≡ need_text need) }
+{
+    let mut text = String::new(alloc);
+    push_need(&mut text, need)?;
+    Ok(text)
+}
+
 // How many bytes a reply's text gets room for at first, so that most take memory once.
 fn room_for(reply: &Reply) -> usize
     ensures { USUAL_TEXT ≤ result }
@@ -189,7 +207,8 @@ fn spell_behind(byte: u8, text: &mut [u8], len: usize) -> usize
     len + 3
 }
 
-fn hex_digit(value: u8) -> u8
+/// The digit of this value, with small letters.
+pub fn hex_digit(value: u8) -> u8
     requires { value < 16 }
     ensures { result ≡ digit_glyph false value }
 {

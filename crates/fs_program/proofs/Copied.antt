@@ -22,7 +22,7 @@ use Rattle.fs_program.proofs.Ends.{session}
 use Rattle.fs_program.specs.Copying.{CopiesOn, MountedEnds, copy_end}
 
 module _ {D : Type 0} (state : D → DiskState) where
-  asked_plays : (old new : System D) (asked : List Asked) → ServesAll (ServesOne state) old asked new
+  pub asked_plays : (old new : System D) (asked : List Asked) → ServesAll (ServesOne state) old asked new
       → Plays state (Ok old) (map (λ a. a.event) asked) (map (λ a. Replies a.reply) asked) (Ok new)
   asked_plays old new _ (stays _) = plays_nothing state (Ok old)
   asked_plays old new _ (goes _ mid _ asked rest serves on) =

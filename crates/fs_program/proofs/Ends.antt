@@ -23,7 +23,8 @@ use Rattle.fs_shell.specs.declared.answer.Count.{Count}
 use Rattle.fs_shell.specs.Watching.{FailsWhere}
 use Rattle.fs_shell.specs.declared.fault.RunFault.{RunFault}
 use Rattle.fs_shell.specs.declared.fault.RunFault.TheVariants.{ReadFault, WriteFault}
-use Rattle.fs_program.specs.Jobs.{Tells, RunsOn}
+use Rattle.fs_program.specs.Jobs.{RunsOn}
+use Rattle.fs_program.specs.Tellings.{Tells}
 use Rattle.fs_program.specs.Streams.{Reading, Writing}
 use Rattle.fs_command.specs.declared.status.Status.{Status}
 use Rattle.fs_command.specs.declared.status.Status.TheVariants.{Failed}

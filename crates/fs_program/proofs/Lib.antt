@@ -2,5 +2,6 @@ mod Ends
 mod Findings
 mod News
 mod Sessions
+mod Answered
 mod Copied
 mod Unpacked

@@ -1,7 +1,5 @@
 -- How the jobs end, and with which status.
 --     status_at_end        the status of a job
---     IsUndone        a job isn't done, and nothing is printed
---     Tells        a line is printed, and the status is this one; or it can't be printed
 --     IsOfRule, HasChecked        a finding is one of the rules'; a check has found something on a disk that has not failed
 --     IsCheckTold        what a check has found is told
 --     MkfsEnds, CheckEnds, UpgradeEnds        a disk is made a file system, a disk is checked, and a disk is upgraded
@@ -11,7 +9,6 @@
 --     MemoryEnds, ImageMkfsEnds, ImageRunEnds, ImageCheckEnds, ImageInfoEnds, ImageUpgradeEnds        the jobs but that of serving
 --     JobEnds, ProgramEnds        a job, and what the program does for its words
 use Rattle.std.specs.Prelude.{◌≡◌, ◌⊎◌, ◌≤◌, ℕ, Bool, List, Option, None, IsSome, IsTrue, Result, Ok, Err, OnOk, IfOk, IfSome, replicate}
-use Rattle.std.specs.Io.KnownBytes.{Appends}
 use Rattle.sector_disk.specs.Disk.{DiskState, IsFresh, IsStable, LeavesOnly, OnlyReads}
 use Rattle.sector_disk.specs.Parts.{IsImageOf}
 use Rattle.sector_disk.specs.Record.{Held}
@@ -52,6 +49,8 @@ use Rattle.fs_program.specs.Serving.{FuseJobEnds}
 use Rattle.fs_program.specs.Programs.{RunsInMemory}
 use Rattle.fs_command.specs.Statuses.{code_of, status_of}
 use Rattle.fs_program.specs.Streams.{Reading, Writing, reading, watched}
+use Rattle.fs_program.specs.Answering.{ImageAccessEnds}
+use Rattle.fs_program.specs.Tellings.{IsUndone, Tells}
 use Rattle.fs_program.specs.Unmounts.{unmount_end}
 use Rattle.fs_program.specs.Texts.{made_text, clean_text, found_text, version_text}
 use Rattle.fs_command.specs.Words.{AsksFor, Refuses, words_status}
@@ -61,7 +60,7 @@ use Rattle.fs_program.specs.declared.memory.TheConstants.{SECTORS, INODES}
 use Rattle.fs_command.specs.declared.status.Status.{Status}
 use Rattle.fs_command.specs.declared.status.Status.TheVariants.{Done, Faulty, Failed}
 use Rattle.fs_command.specs.declared.words.Job.{Job}
-use Rattle.fs_command.specs.declared.words.Job.TheVariants.{Memory, Mkfs, Format, Pack, Unpack, Run, Check, Info as InfoJob, Upgrade, Fuse}
+use Rattle.fs_command.specs.declared.words.Job.TheVariants.{Memory, Mkfs, Format, Pack, Unpack, Run, Check, Info as InfoJob, Upgrade, Fuse, Access}
 use Rattle.fs_command.specs.declared.words.WordsFault.{WordsFault}
 
 -- ---- statuses
@@ -80,14 +79,6 @@ run_status (Err fault) = Failed
 abbrev pub memory_end : Result Count Failure → Result Status Failure
 memory_end (Ok count) = Ok (status_of count.faults)
 memory_end (Err failure) = Err failure
-
--- The job isn't done, for this reason, and nothing is printed.
-abbrev pub IsUndone : Writing → Failure → Result Status Failure → Type 0
-IsUndone w failure result = (w.after ≡ w.before) × (result ≡ Err failure)
-
--- The line is printed, and the status is this one; or it can't be printed.
-abbrev pub Tells : Writing → List ℕ → Status → Result Status Failure → Type 0
-Tells w line status result = (Appends w.before w.after line × (result ≡ Ok status)) ⊎ (result ≡ Ok Failed)
 
 -- ---- on a disk
 
@@ -223,33 +214,35 @@ pub data ImageUpgradeEnds {D : Type 0} (state : D → DiskState) (w : Writing) (
   upgrades : (old now : D) → IsFresh (state old) (state old).seen → LeavesOnly (state old) (state now) (IsHalfUpgraded (state old))
       → UpgradeEnds (state old) (state now) w result → ImageUpgradeEnds state w result
 
--- A job ends so, on disks in memory and in files, the latter as wholes and in part; by what files hold, and what reads of them give; and by
+-- A job ends so, on disks in memory and in files, the latter as wholes, in part, and never written; by what files hold, and what reads of them give; and by
 -- what is shown of processes.
-abbrev pub JobEnds : {M D P F S : Type 0} → (M → DiskState) → (D → DiskState) → (P → DiskState) → (F → Option Held) → (F → Option (List ℕ))
+abbrev pub JobEnds : {M D P U F S : Type 0} → (M → DiskState) → (D → DiskState) → (P → DiskState) → (U → DiskState) → (F → Option Held) → (F → Option (List ℕ))
     → (S → Showing → S → Type 0) → S → Reading → Writing → Job → Result Status Failure → Type 0
-JobEnds memory file part held remaining Shows processes r w Memory result = MemoryEnds memory r w result
-JobEnds memory file part held remaining Shows processes r w (Mkfs image sectors inodes) result = ImageMkfsEnds file Two sectors inodes w result
-JobEnds memory file part held remaining Shows processes r w (Format image sectors inodes) result = ImageMkfsEnds file Three sectors inodes w result
-JobEnds memory file part held remaining Shows processes r w (Pack image from sectors inodes user group) result =
+JobEnds memory file part unwritten held remaining Shows processes r w Memory result = MemoryEnds memory r w result
+JobEnds memory file part unwritten held remaining Shows processes r w (Mkfs image sectors inodes) result = ImageMkfsEnds file Two sectors inodes w result
+JobEnds memory file part unwritten held remaining Shows processes r w (Format image sectors inodes) result = ImageMkfsEnds file Three sectors inodes w result
+JobEnds memory file part unwritten held remaining Shows processes r w (Pack image from sectors inodes user group) result =
     (w.after ≡ w.before) × ImagePackEnds file sectors inodes result
-JobEnds memory file part held remaining Shows processes r w (Unpack image to) result = (w.after ≡ w.before) × ImageUnpackEnds file result
-JobEnds memory file part held remaining Shows processes r w (Run image script) result = ImageRunEnds file remaining script r w result
-JobEnds memory file part held remaining Shows processes r w (Check image explain) result = ImageCheckEnds file part held explain w result
-JobEnds memory file part held remaining Shows processes r w (InfoJob image json) result = ImageInfoEnds file json w result
-JobEnds memory file part held remaining Shows processes r w (Upgrade image) result = ImageUpgradeEnds file w result
-JobEnds memory file part held remaining Shows processes r w (Fuse image denials own_rules commit) result =
+JobEnds memory file part unwritten held remaining Shows processes r w (Unpack image to) result = (w.after ≡ w.before) × ImageUnpackEnds file result
+JobEnds memory file part unwritten held remaining Shows processes r w (Run image script) result = ImageRunEnds file remaining script r w result
+JobEnds memory file part unwritten held remaining Shows processes r w (Check image explain) result = ImageCheckEnds file part held explain w result
+JobEnds memory file part unwritten held remaining Shows processes r w (InfoJob image json) result = ImageInfoEnds file json w result
+JobEnds memory file part unwritten held remaining Shows processes r w (Upgrade image) result = ImageUpgradeEnds file w result
+JobEnds memory file part unwritten held remaining Shows processes r w (Fuse image denials own_rules commit) result =
     FuseJobEnds file Shows processes denials own_rules commit result
+JobEnds memory file part unwritten held remaining Shows processes r w (Access image path perms cred json) result =
+    ImageAccessEnds unwritten (record { cred = cred; path = path; perms = perms }) json w result
 
 -- ---- the program
 
 -- What the program does for its words, and the number that it ends with.
-pub data ProgramEnds {M D P F S : Type 0} (memory : M → DiskState) (file : D → DiskState) (part : P → DiskState) (held : F → Option Held)
+pub data ProgramEnds {M D P U F S : Type 0} (memory : M → DiskState) (file : D → DiskState) (part : P → DiskState) (unwritten : U → DiskState) (held : F → Option Held)
     (remaining : F → Option (List ℕ)) (Shows : S → Showing → S → Type 0) (words : List (List ℕ)) (processes : S) (r : Reading) (w : Writing) (code : ℕ)
     : Type 0 where
-  does_job : (job : Job) (result : Result Status Failure) → AsksFor words job → JobEnds memory file part held remaining Shows processes r w job result
-      → code ≡ code_of (status_at_end result) → ProgramEnds memory file part held remaining Shows words processes r w code
+  does_job : (job : Job) (result : Result Status Failure) → AsksFor words job → JobEnds memory file part unwritten held remaining Shows processes r w job result
+      → code ≡ code_of (status_at_end result) → ProgramEnds memory file part unwritten held remaining Shows words processes r w code
   -- the help, the version, or what is wrong is printed
   refuses : (fault : WordsFault) → Refuses words fault → code ≡ code_of (words_status fault)
-      → ProgramEnds memory file part held remaining Shows words processes r w code
+      → ProgramEnds memory file part unwritten held remaining Shows words processes r w code
   -- that can't be printed
-  is_mute : (fault : WordsFault) → Refuses words fault → code ≡ code_of Failed → ProgramEnds memory file part held remaining Shows words processes r w code
+  is_mute : (fault : WordsFault) → Refuses words fault → code ≡ code_of Failed → ProgramEnds memory file part unwritten held remaining Shows words processes r w code

@@ -1,3 +1,4 @@
+pub mod Answering
 pub mod Copying
 pub mod Jobs
 pub mod Serving
@@ -6,4 +7,5 @@ pub mod Explanations
 pub mod Programs
 pub mod Streams
 pub mod Unmounts
+pub mod Tellings
 pub mod Texts

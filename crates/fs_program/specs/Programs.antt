@@ -19,7 +19,7 @@ use Rattle.fs_system.specs.Mounts.{Mounts}
 use Rattle.fs_images.specs.declared.faults.MkfsFault.TheVariants.{DiskFault}
 use Rattle.fs_program.specs.Streams.{Reading, Writing}
 use Rattle.fs_program.specs.declared.failure.Failure.{Failure}
-use Rattle.fs_program.specs.declared.failure.Failure.TheVariants.{Exists, NotCreated, NotOpened, NoScript, NoDenials, Mkfs, Mount, Check, Info, Upgrade, Run, Pack, Unpack, Serve, Unmount}
+use Rattle.fs_program.specs.declared.failure.Failure.TheVariants.{Exists, NotCreated, NotOpened, NoScript, NoDenials, Mkfs, Mount, Check, Info, Upgrade, Run, Pack, Unpack, Access, Serve, Unmount}
 
 -- on a disk of this version, of so many sectors, with so many inodes: an empty root, all data sectors free, and no process
 pub record IsNew (version : Version) (sectors inodes : ℕ) (s : State) : Type 0 where
@@ -61,6 +61,7 @@ Fails ran untouched (Info fault) = ⊥
 Fails ran untouched (Upgrade fault) = ⊥
 Fails ran untouched (Pack fault) = ⊥
 Fails ran untouched (Unpack fault) = ⊥
+Fails ran untouched (Access fault) = ⊥
 Fails ran untouched (Serve fault) = ⊥
 Fails ran untouched Unmount = ⊥
 

@@ -22,10 +22,10 @@ use std::marker::Model;
 use std::os::fd::AsRawFd;
 use std::rt::Files;
 
-/// A file system on a disk, as trees are copied to it and from it. Before each event the disk lets go of its past. Contracts see
+/// A file system on a disk, as trees are copied to it and from it, and as it is asked. Before each event the disk lets go of its past. Contracts see
 /// the file system.
 #[derive(Drop)]
-struct Copying<D: Disk> {
+pub(crate) struct Copying<D: Disk> {
     fs: Fs<D>,
 }
 
@@ -38,8 +38,8 @@ impl<D: Disk> Model for Copying<D> {
 }
 
 impl<D: Disk> Copying<D> {
-    // The file system, to be asked.
-    fn new(fs: Fs<D>) -> Copying<D>
+    /// The file system, to be asked.
+    pub(crate) fn new(fs: Fs<D>) -> Copying<D>
         ensures { result ≡ fs }
     {
         Copying { fs }

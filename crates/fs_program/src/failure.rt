@@ -1,5 +1,6 @@
 //! Why a job wasn't done. The text is the line that is printed on the standard error.
 
+use fs_access::AccessFault;
 use fs_check::CheckFault;
 use fs_images::{MkfsFault, UpgradeFault};
 use fs_info::InfoFault;
@@ -51,6 +52,9 @@ pub enum Failure {
     /// The tree of the image was not copied to the end.
     #[error("unpack: {0}")]
     Unpack(CopyFault),
+    /// It is not answered who may do what.
+    #[error("access: {0}")]
+    Access(AccessFault),
     /// The serving ended early, or didn't begin.
     #[error("fuse: {0}")]
     Serve(ServeFault),

@@ -6,11 +6,13 @@ ghost use Rattle.sector_disk.specs.Disk.{IsFresh};
 ghost use Rattle.fs_layout.specs.Geometry.{the_geometry};
 ghost use Rattle.fs_images.specs.Making.{IsNewLayout};
 ghost use Rattle.fs_program.specs.Jobs.{HasChecked, ImageMkfsEnds, ImageRunEnds, ImageCheckEnds, ImageInfoEnds, ImageUpgradeEnds, IsOfZeros, JobEnds, ProgramEnds};
+ghost use Rattle.fs_program.specs.Answering.{ImageAccessEnds};
 ghost use Rattle.fs_program.specs.Copying.{ImagePackEnds, ImageUnpackEnds};
 ghost use Rattle.fs_program.specs.Serving.{ImageFuseEnds};
 ghost use Rattle.fs_program.specs.Streams.{reading, writing};
 ghost use Rattle.fs_command.specs.Words.{words_status};
 
+use crate::answering::answer_on_disk;
 use crate::copying::{pack_on_disk, unpack_on_disk};
 use crate::denials::DenialList;
 use crate::disks::{
@@ -19,6 +21,7 @@ use crate::disks::{
 use crate::failure::Failure;
 use crate::memory::run_in_memory;
 use crate::served::serve_on_disk;
+use fs_access::{Question, Untouched};
 use fs_check::{CheckFault, Summary, check, load};
 use fs_command::{Job, Status, Text, WordsFault, parse_words};
 use fs_images::{MkfsFault, newest_layout, older_layout};
@@ -57,7 +60,7 @@ pub fn perform<
 ) -> u8
     // The words ask for a job, and it has ended with this status; or they ask for none.
     ensures performs { ProgramEnds ⟦<MemDisk as Disk>⟧.state ⟦<FileDisk<R::File> as Disk>⟧.state ⟦<PartDisk<R::File> as Disk>⟧.state
-        R.File.held R.File.remaining P.Shows (map string_bytes words.now) processes
+        ⟦<FileDisk<Untouched<R::File>> as Disk>⟧.state R.File.held R.File.remaining P.Shows (map string_bytes words.now) processes
         (reading I.remaining input.old input.new) (writing O.contents out.old out.new) result }
     ensures range { result ≤ 3 }
 {
@@ -95,7 +98,7 @@ fn perform_job<
     err: &mut E,
 ) -> Result<Status, Failure>
     ensures { JobEnds ⟦<MemDisk as Disk>⟧.state ⟦<FileDisk<R::File> as Disk>⟧.state ⟦<PartDisk<R::File> as Disk>⟧.state
-        R.File.held R.File.remaining P.Shows processes (reading I.remaining input.old input.new) (writing O.contents out.old out.new) job.now result }
+        ⟦<FileDisk<Untouched<R::File>> as Disk>⟧.state R.File.held R.File.remaining P.Shows processes (reading I.remaining input.old input.new) (writing O.contents out.old out.new) job.now result }
 {
     match job {
         Job::Memory => {
@@ -148,6 +151,16 @@ fn perform_job<
                 &mut kernel,
                 err,
             )
+        }
+        Job::Access {
+            image,
+            path,
+            perms,
+            cred,
+            json,
+        } => {
+            let question = Question::new(cred, path.as_str(), *perms);
+            ask_image(rt, image, &question, *json, out)
         }
     }
 }
@@ -334,6 +347,38 @@ fn upgrade_image<R: Files<File: DiskFile> + AllocGlobal, O: Write>(
 {
     let mut disk = open_image(rt, image)?;
     upgrade_disk(rt.alloc(), &mut disk, out)
+}
+
+// Answers who may do what at a path of an image.
+fn ask_image<R: Files<File: DiskFile> + AllocGlobal, O: Write>(
+    rt: &R,
+    image: &Text,
+    question: &Question<'_>,
+    json: bool,
+    out: &mut Watched<O>,
+) -> Result<Status, Failure>
+    ensures { ImageAccessEnds ⟦<FileDisk<Untouched<R::File>> as Disk>⟧.state question.now json (writing O.contents out.old out.new) result }
+{
+    let disk = open_unwritten(rt, image)?;
+    answer_on_disk(rt.alloc(), disk, question, json, out)
+}
+
+// The disk of an image whose file is opened for reading alone, and which keeps in memory what is written to it.
+fn open_unwritten<R: Files<File: DiskFile> + AllocGlobal>(
+    rt: &R,
+    image: &Text,
+) -> Result<FileDisk<Untouched<R::File>>, Failure>
+    ensures { MatchResult result
+        (λ disk. IsFresh (⟦<FileDisk<Untouched<R::File>> as Disk>⟧.state disk) (⟦<FileDisk<Untouched<R::File>> as Disk>⟧.state disk).seen)
+        (λ failure. failure ≡ Failure.NotOpened) }
+{
+    let Ok(file) = fs::open(rt, image.as_str()) else {
+        return Err(Failure::NotOpened);
+    };
+    match FileDisk::over_large(rt.alloc(), Untouched::new(file)) {
+        Ok(disk) => Ok(disk),
+        Err(_) => Err(Failure::NotOpened),
+    }
 }
 
 // A number that no user knows. Where the system has no random bytes it is 0: users may then make calls slower, and change no reply.

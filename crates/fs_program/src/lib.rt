@@ -3,6 +3,7 @@
 //! `docs/inofs.1` says how the program is called and what it prints.
 #![tactic(auto)]
 
+mod answering;
 mod copying;
 mod denials;
 mod disks;

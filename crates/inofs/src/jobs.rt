@@ -1,7 +1,9 @@
 //! What the program does for its words, on files of this machine, and the line of each failure.
 
+use crate::asking::ASKED;
 use crate::report::push_other_text;
 use crate::words::HELP;
+use fs_access::AccessFault;
 use fs_check::{CheckFault, Finding};
 use fs_images::{MkfsFault, UpgradeFault};
 use fs_info::InfoFault;
@@ -17,7 +19,7 @@ use std::{env, fs, mem, process};
 // ---- the files
 
 // What becomes of an image before the program runs.
-enum Change {
+pub(crate) enum Change {
     Nothing,
     // The byte at this place becomes this one.
     Byte(usize, u8),
@@ -104,7 +106,7 @@ fn seen(rt: &HostRuntime, folder: &str, line: &str, input: &str) -> Result<Strin
 
 // What becomes of the image, the words, and what is on the standard input; then what is seen: the status, and the texts on the
 // standard output and on the standard error.
-type Row = (
+pub(crate) type Row = (
     Change,
     &'static str,
     &'static str,
@@ -183,6 +185,12 @@ For more information, try '--help'.
 const BAD_SIZE: &str =
     "error: invalid value for '--size <SIZE>': 512K to 8G, in bytes or with K, M or G behind\n";
 
+const BAD_USER: &str =
+    "error: invalid value for '--user <UID:GID>': a user, a colon, and 1 to 17 groups with commas between\n";
+
+const ABSENT_JSON: &str =
+    "{\"path\":\"/l\",\"perm\":\"r--\",\"user\":\"7:8\",\"granted\":false,\"error\":\"ENOENT\",\"errno\":2}\n";
+
 const NO_COMMAND: &str = "error: unrecognized subcommand 'fsck'
 
 Usage: inofs
@@ -195,6 +203,7 @@ Usage: inofs
        inofs info [--json] IMAGE
        inofs upgrade IMAGE
        inofs fuse IMAGE [--denials FILE] [--own-rules] [--commit SECONDS]
+       inofs access IMAGE PATH PERM --user UID:GID[,GID..] [--caps NAME[,NAME..]] [--json]
 
 For more information, try '--help'.
 ";
@@ -309,7 +318,7 @@ static DAMAGED_IMAGE: [Row; 11] = [
 ];
 
 // Of images of version 3.
-static LARGE_IMAGE: [Row; 9] = [
+static LARGE_IMAGE: [Row; 14] = [
     (
         Change::Nothing,
         "format @e --size 1M --inodes 64",
@@ -321,6 +330,40 @@ static LARGE_IMAGE: [Row; 9] = [
     (Change::Nothing, "run @e", SCRIPT, (0, REPLIES, "")),
     (Change::Nothing, "check @e", "", (0, FILLED_LARGE, "")),
     (Change::Nothing, "info @e", "", (0, FILLED_LARGE_INFO, "")),
+    (
+        Change::Nothing,
+        "access @e /f w --user 7:8",
+        "",
+        (
+            1,
+            "denied: /f needs -w-, and its entry for others doesn't grant it\n",
+            "",
+        ),
+    ),
+    (
+        Change::Nothing,
+        "access @e /d rx --user 7:8",
+        "",
+        (0, "granted: r-x on /d, by its entry for others\n", ""),
+    ),
+    (
+        Change::Nothing,
+        "access @e /l r --user 7:8 --json",
+        "",
+        (1, ABSENT_JSON, ""),
+    ),
+    (
+        Change::Nothing,
+        "access @e /f r --user 7",
+        "",
+        (2, "", BAD_USER),
+    ),
+    (
+        Change::Nothing,
+        "access @none /f r --user 7:8",
+        "",
+        (3, "", "image: cannot open\n"),
+    ),
     (
         Change::Nothing,
         "format @e --size 1M",
@@ -420,6 +463,7 @@ fn push_rows(rt: &HostRuntime, folder: &str, report: &mut String) -> Result<(), 
         NEW_IMAGE.as_slice(),
         DAMAGED_IMAGE.as_slice(),
         LARGE_IMAGE.as_slice(),
+        ASKED.as_slice(),
         TREES.as_slice(),
     ] {
         for row in rows {
@@ -451,7 +495,7 @@ fn the_program_does_what_its_words_say(rt: HostRuntime) -> Result<(), Fail> {
 const FINDING: Finding = Finding { rule: 6, at: 147 };
 
 // What is printed where a job isn't done.
-static FAILURES: [(Failure, &str); 30] = [
+static FAILURES: [(Failure, &str); 31] = [
     (Failure::Exists, "image: exists"),
     (Failure::NotCreated, "image: cannot create"),
     (Failure::NotOpened, "image: cannot open"),
@@ -502,6 +546,10 @@ static FAILURES: [(Failure, &str); 30] = [
     (
         Failure::Upgrade(UpgradeFault::OutOfMemory),
         "upgrade: OutOfMemory",
+    ),
+    (
+        Failure::Access(AccessFault::OutOfMemory),
+        "access: OutOfMemory",
     ),
     (Failure::Run(RunFault::ReadFault), "run: ReadFault"),
     (Failure::Run(RunFault::WriteFault), "run: WriteFault"),

@@ -1,6 +1,7 @@
 //! Which job the words ask for, and what is printed where they ask for none.
 
 use crate::report::push_other_text;
+use bitflags::Flags;
 use fs_program::{Job, WordsFault, parse_words};
 use std::alloc::{AllocError, Global};
 use std::mem;
@@ -71,7 +72,33 @@ fn told_job(alloc: Global, job: &Job) -> Result<String, AllocError> {
             own_rules,
             commit,
         } => format!(in alloc; "fuse {} {own_rules} {commit}", image.as_str()),
+        Job::Access { .. } => told_access(alloc, job),
     }
+}
+
+// Of another job nothing is told.
+fn told_access(alloc: Global, job: &Job) -> Result<String, AllocError> {
+    let Job::Access {
+        image,
+        path,
+        perms,
+        cred,
+        json,
+    } = job
+    else {
+        return Ok(String::new(alloc));
+    };
+    let (image, path, perms) = (image.as_str(), path.as_str(), perms.letters());
+    let mut told = format!(in alloc;
+        "access {image} {path} {perms} {} {}",
+        cred.uid(),
+        cred.gid()
+    )?;
+    for group in cred.groups() {
+        write!(told, ",{group}")?;
+    }
+    write!(told, " {} {json}", cred.caps().bits())?;
+    Ok(told)
 }
 
 // Of another job nothing is told.
@@ -96,6 +123,9 @@ fn told_fault(alloc: Global, fault: &WordsFault) -> Result<String, AllocError> {
         WordsFault::Help(_) => "help",
         WordsFault::BadWords(_) => "bad",
         WordsFault::BadSize => "size",
+        WordsFault::BadPerm => "perm",
+        WordsFault::BadUser => "user",
+        WordsFault::BadCaps => "caps",
         WordsFault::OutOfMemory => "memory",
     };
     format!(in alloc; "{word} {}", fault.status().code())
@@ -173,6 +203,50 @@ static USING: [(&str, &str); 18] = [
     ),
 ];
 
+// Lines that ask who may do what: the capabilities are told by the sum of their bits.
+static ASKING: [(&str, &str); 10] = [
+    (
+        "inofs access a.img /f r --user 7:8",
+        "access a.img /f r-- 7 8 0 false",
+    ),
+    (
+        "inofs access a.img f rwx --user 0:8",
+        "access a.img f rwx 0 8 31 false",
+    ),
+    (
+        "inofs access --json a.img / x --user=7:8,9,4294967295",
+        "access a.img / --x 7 8,9,4294967295 0 true",
+    ),
+    (
+        "inofs access a.img /f rx --user 0:0 --caps none",
+        "access a.img /f r-x 0 0 0 false",
+    ),
+    (
+        "inofs access a.img /f r-x --caps chown,fsetid --user 7:8 --json",
+        "access a.img /f r-x 7 8 17 true",
+    ),
+    (
+        "inofs access --user 7:8 -- a.img /f -w-",
+        "access a.img /f -w- 7 8 0 false",
+    ),
+    (
+        "inofs access --user 7:8 -- a.img /f ---",
+        "access a.img /f --- 7 8 0 false",
+    ),
+    (
+        "inofs access a.img /f w --user 7:8 --caps dac-override",
+        "access a.img /f -w- 7 8 2 false",
+    ),
+    (
+        "inofs access a.img /f rw --user 7:8 --caps dac-read-search,fowner",
+        "access a.img /f rw- 7 8 12 false",
+    ),
+    (
+        "inofs access a.img /f wx --user 7:0,1,2,3,4,5,6,7,8,9,10,11,12,13,14,15,16",
+        "access a.img /f -wx 7 0,1,2,3,4,5,6,7,8,9,10,11,12,13,14,15,16 0 false",
+    ),
+];
+
 // Lines that ask for no job: `mkfs`.
 static BAD_MKFS: [&str; 16] = [
     "inofs mkfs",
@@ -230,6 +304,52 @@ static BAD_LOOKS: [&str; 12] = [
     "inofs info a.img --explain",
 ];
 
+// `access`.
+static BAD_QUESTIONS: [&str; 9] = [
+    "inofs access",
+    "inofs access a.img /f r",
+    "inofs access a.img /f --user 7:8",
+    "inofs access a.img /f r s --user 7:8",
+    "inofs access a.img /f -w- --user 7:8",
+    "inofs access a.img /f r --user 7:8 --user 7:8",
+    "inofs access a.img /f r --user -1:8",
+    "inofs access a.img /f r --user 7:8 --caps",
+    "inofs access a.img /f r --user 7:8 --json=true",
+];
+
+// Lines with permissions that are none.
+static PERMISSIONS: [&str; 6] = [
+    "inofs access a.img /f rr --user 7:8",
+    "inofs access a.img /f wr --user 7:8",
+    "inofs access a.img /f R --user 7:8",
+    "inofs access a.img /f r- --user 7:8",
+    "inofs access a.img /f rwxr --user 7:8",
+    "inofs access a.img /f 4 --user 7",
+];
+
+// With users that are none.
+static USERS: [&str; 10] = [
+    "inofs access a.img /f r --user 7",
+    "inofs access a.img /f r --user 7:",
+    "inofs access a.img /f r --user :8",
+    "inofs access a.img /f r --user 7:8:9",
+    "inofs access a.img /f r --user 7:8,",
+    "inofs access a.img /f r --user 07:8",
+    "inofs access a.img /f r --user 7:4294967296",
+    "inofs access a.img /f r --user=",
+    "inofs access a.img /f r --user root:8",
+    "inofs access a.img /f r --user 7:0,1,2,3,4,5,6,7,8,9,10,11,12,13,14,15,16,17",
+];
+
+// With capabilities that are none.
+static CAPABILITIES: [&str; 5] = [
+    "inofs access a.img /f r --user 7:8 --caps x",
+    "inofs access a.img /f r --user 7:8 --caps=",
+    "inofs access a.img /f r --user 7:8 --caps chown,chown",
+    "inofs access a.img /f r --user 7:8 --caps fsetid,chown",
+    "inofs access a.img /f r --user 7:8 --caps none,chown",
+];
+
 // All else.
 static BAD_OTHERS: [&str; 23] = [
     "inofs upgrade",
@@ -277,7 +397,7 @@ static SIZES: [&str; 15] = [
 ];
 
 // Lines that ask for help or the version.
-static SHOWN: [&str; 13] = [
+static SHOWN: [&str; 14] = [
     "inofs --help",
     "inofs -h",
     "inofs --version",
@@ -291,6 +411,7 @@ static SHOWN: [&str; 13] = [
     "inofs info --help",
     "inofs upgrade --help",
     "inofs fuse --help",
+    "inofs access --help",
 ];
 
 // Adds to the report where a line asks for something other than is wanted.
@@ -324,6 +445,7 @@ Usage: inofs
        inofs info [--json] IMAGE
        inofs upgrade IMAGE
        inofs fuse IMAGE [--denials FILE] [--own-rules] [--commit SECONDS]
+       inofs access IMAGE PATH PERM --user UID:GID[,GID..] [--caps NAME[,NAME..]] [--json]
 
 Commands:
   mkfs     Make an image of the second layout with an empty file system
@@ -335,6 +457,7 @@ Commands:
   info     Say the version, the size, what is free and the limits of an image
   upgrade  Upgrade an image of the first layout to the second
   fuse     Serve an image to the kernel's FUSE, on the standard input and output
+  access   Say whether somebody may do something at a path of an image, and why
 
 Options:
   -h, --help     Print help
@@ -342,7 +465,7 @@ Options:
 
 With no command, runs the script on the standard input on a new disk in memory.
 
-Status: 0 done, 1 a line's fault or a finding, 2 bad words, 3 every other fault.
+Status: 0 done, 1 a line's fault, a finding or a denial, 2 bad words, 3 every other fault.
 ";
 
 const FUSE_HELP: &str = "Serve an image to the kernel's FUSE, on the standard input and output
@@ -425,7 +548,7 @@ fn expect_text(
 }
 
 fn expect_jobs(alloc: Global, report: &mut String) -> Result<(), AllocError> {
-    for jobs in [MAKING.as_slice(), USING.as_slice()] {
+    for jobs in [MAKING.as_slice(), USING.as_slice(), ASKING.as_slice()] {
         for (line, wanted) in jobs {
             expect(alloc, report, line, wanted)?;
         }
@@ -458,11 +581,15 @@ fn expect_all(alloc: Global, report: &mut String) -> Result<(), AllocError> {
         BAD_MKFS.as_slice(),
         BAD_TREES.as_slice(),
         BAD_LOOKS.as_slice(),
+        BAD_QUESTIONS.as_slice(),
         BAD_OTHERS.as_slice(),
     ] {
         expect_each(alloc, report, lines, "bad 2")?;
     }
     expect_each(alloc, report, &SIZES, "size 2")?;
+    expect_each(alloc, report, &PERMISSIONS, "perm 2")?;
+    expect_each(alloc, report, &USERS, "user 2")?;
+    expect_each(alloc, report, &CAPABILITIES, "caps 2")?;
     expect_each(alloc, report, &SHOWN, "help 0")?;
     expect_texts(alloc, report)
 }

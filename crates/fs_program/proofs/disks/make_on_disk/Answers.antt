@@ -2,7 +2,8 @@ use Rattle.std.proofs.Common.{refl, subst, Ok}
 use Rattle.fs_layout.specs.declared.geometry.Geometry.{Geometry}
 use Rattle.fs_layout.specs.Geometry.{new_header}
 use Rattle.fs_layout.proofs.Places.{geometry_is_laid_out, is_a_geometry}
-use Rattle.fs_program.specs.Jobs.{Tells, cannot_make, is_made}
+use Rattle.fs_program.specs.Jobs.{cannot_make, is_made}
+use Rattle.fs_program.specs.Tellings.{Tells}
 use Rattle.fs_program.specs.Streams.{writing}
 use Rattle.fs_program.specs.Texts.{made_text}
 use Rattle.fs_command.specs.declared.status.Status.TheVariants.{Done}

@@ -30,3 +30,6 @@ pub returns-in-Fuse : goal.returns-in-Fuse
 returns-in-Fuse g c =
     let served = rw c.as_ref-in-Fuse.ensures.value at c.serve_image.ensures in
     rw c.in-Fuse.is (fuse_job_ends _ _ g.P.Processes.Shows _ _ _ _ _ _ served (λ k. k.processes) (λ old new x does. does) c.args.processes c.new-kernel.ensures)
+
+pub returns-in-Access : goal.returns-in-Access
+returns-in-Access g c = rw c.in-Access.is (rw (c.new-question.ensures, c.as_str.ensures) at c.ask_image.ensures)

@@ -1,0 +1,4 @@
+pub mod Components
+pub mod Asking
+pub mod Sentences
+pub mod Objects
